@@ -43,6 +43,8 @@ WIDTHS = {"utf-8": lambda character: len(character.encode()), "utf-16": lambda c
 GREATEST_TEXT = 16_777_216
 # Names that clash in C are looked for in texts up to this size.
 GREATEST_WARNED = 262_144
+# How many faults are published at most, where a client says no other number.
+MOST = 1_000
 INVALID_PARAMS = -32602
 CONTENT_MODIFIED = -32801
 REQUEST_FAILED = -32803
@@ -112,25 +114,27 @@ def changed(text, change, encoding):
 
 class Setting:
     """What is known before a text, whether C's types and other names are left to C, whether lines of cpp are
-    blanked, and whether names that clash in C are told."""
+    blanked, whether names that clash in C are told, and how many faults are at most."""
 
-    def __init__(self, known=rpclang.NOTHING, types=False, foreigners=False, blanks=True, warns=True):
+    def __init__(self, known=rpclang.NOTHING, types=False, foreigners=False, blanks=True, warns=True, most=MOST):
         # A server keeps no places of known files.
         self.known = known._replace(places={})
-        self.types, self.foreigners, self.blanks, self.warns = types, foreigners, blanks, warns
+        self.types, self.foreigners, self.blanks, self.warns, self.most = types, foreigners, blanks, warns, most
 
     def chosen(self, options):
         """What a client's `initializationOptions` make of it."""
         if not isinstance(options, dict):
             return self
         types, foreigners = options.get("cTypes"), options.get("foreign")
-        way, warns = options.get("directives"), options.get("warnings")
+        way, warns, most = options.get("directives"), options.get("warnings"), options.get("most")
+        is_number = isinstance(most, int) and not isinstance(most, bool)
         return Setting(
             self.known,
             types if isinstance(types, bool) else self.types,
             foreigners if isinstance(foreigners, bool) else self.foreigners,
             way == "blank" if way in ("blank", "fault") else self.blanks,
-            warns if isinstance(warns, bool) else self.warns)
+            warns if isinstance(warns, bool) else self.warns,
+            most if is_number and 1 <= most < 1 << 64 else self.most)
 
     @functools.lru_cache(rpclang.KEPT_TEXTS)
     def compiled(self, text):
@@ -182,7 +186,8 @@ def diagnostic(lines, uri, compilation, fault):
     token = compilation.items[fault.item][fault.token]
     name = rpclang.CODE_NAMES[fault.code]
     said = f"{fault.code} {name}: {sentence(compilation, fault)}"
-    return {"code": fault.code, "message": said, "severity": 1, "source": "rpcgen", "range": lines.range(token),
+    severity = 3 if fault.code == explained.NOTE else 1
+    return {"code": fault.code, "message": said, "severity": severity, "source": "rpcgen", "range": lines.range(token),
             **related(lines, uri, declared_elsewhere(compilation, fault), "first declared here")}
 
 
@@ -220,6 +225,23 @@ def told_faults(lines, setting, compilation):
     return told
 
 
+def chosen_faults(faults, most):
+    """Those of the faults that are shown: the first errors, and as many notes of what follows from them as there is
+    room for behind all errors."""
+    errors = [index for index, fault in enumerate(faults) if fault.code != explained.NOTE]
+    notes = [index for index, fault in enumerate(faults) if fault.code == explained.NOTE]
+    return [faults[index] for index in sorted((errors + notes)[:most])]
+
+
+def unshown(count):
+    """What is told of so many faults that are not shown."""
+    if not count:
+        return []
+    start = {"line": 0, "character": 0}
+    said = "1 more fault is not shown" if count == 1 else f"{count} more faults are not shown"
+    return [{"message": said, "severity": 3, "source": "rpcgen", "range": {"start": start, "end": start}}]
+
+
 def foreign_hint(lines, token):
     """What is told of a foreign name at its first mention."""
     return {"code": 21, "message": f"21 Unknown: '{token.text.decode()}' is taken from C", "severity": 4, "source": "rpcgen",
@@ -249,7 +271,9 @@ def warnings(lines, uri, setting, compilation):
 def diagnostics(lines, uri, setting):
     """All that is published of a text, with other places of this document if the client shows them."""
     compilation = setting.compiled(lines.bytes)
-    told = [diagnostic(lines, uri, compilation, fault) for fault in told_faults(lines, setting, compilation)]
+    faults = told_faults(lines, setting, compilation)
+    told = [diagnostic(lines, uri, compilation, fault) for fault in chosen_faults(faults, setting.most)]
+    told += unshown(max(len(faults) - setting.most, 0))
     if setting.blanks:
         told += [hint(lines, *places) for places in directives.conditionals(lines.bytes)]
     told += [foreign_hint(lines, compilation.items[item][place]) for item, place in compilation.foreign]

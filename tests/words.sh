@@ -274,7 +274,7 @@ in_range() {
     printf '{"range":{"start":{"line":%s,"character":%s},"end":{"line":%s,"character":%s}},"text":"%s"}' "$@"
 }
 
-# diagnosed: what is published, as it comes: the version, and under it each fault, hint or warning with its place.
+# diagnosed: what is published, as it comes: the version, and under it each fault, note, hint or warning with its place.
 diagnosed() {
     grep publishDiagnostics | python3 -c '
 import json, sys
@@ -286,7 +286,7 @@ for line in sys.stdin:
     params = json.loads(line)["params"]
     print("version", params["version"])
     for told in params["diagnostics"]:
-        kind = {1: "error", 2: "warning", 4: "hint"}[told["severity"]]
+        kind = {1: "error", 2: "warning", 3: "note", 4: "hint"}[told["severity"]]
         print(" ", kind, place(told["range"]["start"]) + "-" + place(told["range"]["end"]), told["message"])'
 }
 

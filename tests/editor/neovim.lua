@@ -20,6 +20,8 @@ end
 
 local function faults(wanted) tells('faults', vim.diagnostic.severity.ERROR, wanted) end
 
+local function notes(wanted) tells('notes', vim.diagnostic.severity.INFO, wanted) end
+
 local function hints(wanted) tells('hints', vim.diagnostic.severity.HINT, wanted) end
 
 -- Carries keys out, and prints the line then.
@@ -69,7 +71,8 @@ local function renames(line, column, name)
 end
 
 vim.cmd('edit t.x')
-faults(2)
+faults(1)
+notes(1)
 type_keys('1G0f{wcwint')
 faults(0)
 type_keys('3G0f[lrM')

@@ -9,6 +9,9 @@ use x_lsp::serve_run;
 use x_prelude::FromC;
 use x_text::{In, Out};
 
+/// How many faults of a document are published at most, unless the editor says another number.
+const MOST_PUBLISHED: usize = 1_000;
+
 /// Carries out the command line. Where that stops early, it answers the status as an error.
 fn run(rt: &HostRuntime) -> Result<Status, Status> {
     let mut err = Out::new(rt.stderr());
@@ -29,6 +32,7 @@ fn run(rt: &HostRuntime) -> Result<Status, Status> {
         },
         blanks: !args.faults_directives,
         warns: true,
+        most: MOST_PUBLISHED,
     };
     let hash_key = draw_key(rt, "rpcls", &mut err)?;
     let mut input = In::new(rt.stdin());

@@ -60,16 +60,16 @@ over_replaced (Ok x) old new over same had = merely over
 over_replaced (Err e) old new over same had = subst (λ t. ∥ IsOver t ∥₁) (sym same) had
 
 -- why it is not compiled, behind these files
-pub not_compiled : {T : Type 0} (r : Result T TextFault) (files : List ℕ) (from : FromC) (blanks warns : Bool)
+pub not_compiled : {T : Type 0} (r : Result T TextFault) (files : List ℕ) (from : FromC) (blanks warns : Bool) (most : ℕ)
     (shown front bytes : List ℕ) → front ≡ files ++ constants_of blanks shown → bytes ≡ compiled_of blanks shown
     → (IsErrOf r TooLarge → ∥ (most_text < length bytes) ⊎ IsCrowded front from bytes ∥₁) → (IsErrOf r BadRange → ⊥)
-    → IfErr r (IsNotCompiled (ground_with files from blanks warns) shown)
-not_compiled (Ok x) files from blanks warns shown front bytes f b large range = tt
-not_compiled (Err BadRange) files from blanks warns shown front bytes f b large range = range refl
-not_compiled (Err TooLarge) files from blanks warns shown front bytes f b large range =
+    → IfErr r (IsNotCompiled (ground_with files from blanks warns most) shown)
+not_compiled (Ok x) files from blanks warns most shown front bytes f b large range = tt
+not_compiled (Err BadRange) files from blanks warns most shown front bytes f b large range = range refl
+not_compiled (Err TooLarge) files from blanks warns most shown front bytes f b large range =
     subst (λ t. ∥ (most_text < length t) ⊎ IsCrowded (files ++ constants_of blanks shown) from t ∥₁) b
     (subst (λ g. ∥ (most_text < length bytes) ⊎ IsCrowded g from bytes ∥₁) f (large refl))
-not_compiled (Err NoMemory) files from blanks warns shown front bytes f b large range = tt
+not_compiled (Err NoMemory) files from blanks warns most shown front bytes f b large range = tt
 
 -- one of two is too large, by other names
 pub large_so : (files files' : List ℕ) (from from' : FromC) (text text' : List ℕ) → files' ≡ files → from' ≡ from → text' ≡ text

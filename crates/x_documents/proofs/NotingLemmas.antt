@@ -134,10 +134,10 @@ unheard d d' version (Some list) said is says = refused NoMemory (inr tt) is (fa
 -- what is published of a document that was opened so
 pub published_as : (d : OpenDocument) (client : Client) (on : Ground) (uri : List ℕ) (version : ℤ) (text : List ℕ) (said : Option (List ℕ))
     → view_document d ≡ opened_as client on uri version text → d.in_step ≡ true
-    → Publishes d.client (string_bytes d.uri) d.version (ground_with d.files.items d.compiled.from_c d.blanks d.warns) d.shown said
+    → Publishes d.client (string_bytes d.uri) d.version (ground_with d.files.items d.compiled.from_c d.blanks d.warns d.most) d.shown said
     → Publishes client uri version on text said
 published_as d client on uri version text said is in_step says =
     subst (λ (x : Document). (t : List ℕ) → x.text ≡ Some t → Publishes x.client x.uri x.version x.on t said) is
-    (λ t e. subst (λ s. Publishes d.client (string_bytes d.uri) d.version (ground_with d.files.items d.compiled.from_c d.blanks d.warns) s said)
+    (λ t e. subst (λ s. Publishes d.client (string_bytes d.uri) d.version (ground_with d.files.items d.compiled.from_c d.blanks d.warns d.most) s said)
         (ap (λ o. unwrap_or o []) (sym (ap (λ b. if b then Some d.shown else None) in_step) ∙ e)) says)
     text refl

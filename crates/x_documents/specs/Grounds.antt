@@ -1,5 +1,6 @@
--- On what the documents of an editor are compiled, and of what it is warned.
-use Rattle.std.specs.Prelude.{ℕ, Bool, true, false, List, [], ◌++◌, bytes_eq, codes, if◌then◌else◌}
+-- On what the documents of an editor are compiled, how many of their faults it is shown, and of what it is
+-- warned.
+use Rattle.std.specs.Prelude.{ℕ, ◌==◌, Bool, true, false, List, [], ◌++◌, bytes_eq, codes, if◌then◌else◌}
 use Rattle.std.specs.Prelude.{Option, None, Some, option_and_then, unwrap_or}
 use Rattle.std.specs.List.{flat_map}
 use Rattle.serde_json.specs.Data.{Data}
@@ -7,25 +8,27 @@ use Rattle.serde_json.specs.Find.{as_bool, as_str}
 use Rattle.x_compile.specs.Compile.{Item}
 use Rattle.x_directives.specs.Blanked.{blanked}
 use Rattle.x_directives.specs.Constants.{Spelled, defined}
-use Rattle.x_frames.specs.Params.{member_of}
+use Rattle.x_frames.specs.Params.{member_of, natural_of}
 use Rattle.x_prelude.specs.Before.{CompilesBy}
 use Rattle.x_prelude.specs.declared.definition.FromC.{FromC}
 use Rattle.x_documents.specs.declared.setting.Setting.{Setting}
 
--- the text of the known files, the names of C that a text may use, whether the lines of cpp are blanked, and
--- whether names that clash in C are published
+-- the text of the known files, the names of C that a text may use, whether the lines of cpp are blanked,
+-- whether names that clash in C are published, and how many faults are at most
 pub record Ground : Type 0 where
   pub files : List ℕ
   pub from : FromC
   pub blanks : Bool
   pub warns : Bool
+  pub most : ℕ
 
 abbrev pub ground_of : Setting → Ground
-ground_of s = record { files = s.files.now; from = s.from_c; blanks = s.blanks; warns = s.warns }
+ground_of s =
+    record { files = s.files.now; from = s.from_c; blanks = s.blanks; warns = s.warns; most = s.most }
 
-abbrev pub ground_with : (files : List ℕ) → FromC → (blanks warns : Bool) → Ground
-ground_with files from blanks warns =
-    record { files = files; from = from; blanks = blanks; warns = warns }
+abbrev pub ground_with : (files : List ℕ) → FromC → (blanks warns : Bool) → (most : ℕ) → Ground
+ground_with files from blanks warns most =
+    record { files = files; from = from; blanks = blanks; warns = warns; most = most }
 
 -- what a client sets an option to (this project, `initializationOptions` of LSP 3.17)
 abbrev pub flag_of : (name : List ℕ) → (options : Option Data) → Option Bool
@@ -40,6 +43,14 @@ blanks_by (Some word) = if bytes_eq word (codes "blank") then Some true
 abbrev pub blanks_of : (options : Option Data) → Option Bool
 blanks_of options = blanks_by (option_and_then as_str (member_of (codes "directives") options))
 
+-- how many faults are published at most: one or more
+abbrev pub most_by : Option ℕ → Option ℕ
+most_by None = None
+most_by (Some most) = if most == 0 then None else Some most
+
+abbrev pub most_of : (options : Option Data) → Option ℕ
+most_of options = most_by (option_and_then natural_of (member_of (codes "most") options))
+
 -- what documents are compiled on with these options: what they do not set stays
 abbrev pub asked_with : Ground → (options : Option Data) → Ground
 asked_with on options = record {
@@ -50,6 +61,7 @@ asked_with on options = record {
   };
   blanks = unwrap_or (blanks_of options) on.blanks;
   warns = unwrap_or (flag_of (codes "warnings") options) on.warns;
+  most = unwrap_or (most_of options) on.most;
 }
 
 -- and with those that a client gives as it initializes the server

@@ -5,13 +5,16 @@ use Rattle.std.specs.Prelude.{Option, Some}
 use Rattle.serde_json.specs.Data.{Data}
 use Rattle.serde_json.specs.Written.{compact_text}
 use Rattle.x_compile.specs.Compile.{Item, faults_of}
+use Rattle.x_compile.specs.declared.fault.FaultPlace.{FaultPlace}
 use Rattle.x_declared.specs.Foreign.{ForeignName}
 use Rattle.x_prelude.specs.Foreign.{AreForeign}
 use Rattle.x_frames.specs.KeptSaid.{no_memory_note}
+use Rattle.x_told.specs.Choosing.{chosen, left_out}
 use Rattle.x_told.specs.Telling.{told_of}
 use Rattle.x_warnings.specs.Warnings.{AreWarnings, Warning}
 use Rattle.x_published.specs.declared.client.Client.{Client}
 use Rattle.x_published.specs.Diagnostics.{AreDiagnostics, AreForeignHints, hints_of, published_data}
+use Rattle.x_published.specs.Unshown.{unshown_data}
 use Rattle.x_published.specs.Warned.{AreWarned}
 use Rattle.x_documents.specs.Grounds.{CompilesOn, Ground, compiled_of, constants_of}
 
@@ -32,12 +35,21 @@ AreWarnedOf client uri warns shown text items ds =
     MatchBool (is_searched warns (length shown) (length (faults_of text items)))
     ((ws : List Warning) × AreWarnings text items ws × AreWarned client uri shown text ws ds) (ds ≡ [])
 
--- The text publishes the faults of a document's text with these items that are told, in their order, and
+-- What is published of the faults that are told, if `most` of them are at most: each that is shown, in their
+-- order, and then how many are not.
+abbrev pub AreShown : Client → (uri : List ℕ) → (most : ℕ) → (shown text : List ℕ) → List Item
+    → (told : List FaultPlace) → List Data → Type 0
+AreShown client uri most shown text items told ds =
+    (each : List Data) × AreDiagnostics client uri shown text items (chosen most told) each
+    × (ds ≡ each ++ unshown_data (left_out most told))
+
+-- The text publishes the faults of a document's text with these items that are told, as many as may be, and
 -- then the hints of directives, those of these names that are taken from C, and the names that clash in C.
-abbrev pub IsPublishedOf : Client → (uri : List ℕ) → (version : ℤ) → (blanks warns : Bool)
+abbrev pub IsPublishedOf : Client → (uri : List ℕ) → (version : ℤ) → (blanks warns : Bool) → (most : ℕ)
     → List ForeignName → (shown text : List ℕ) → List Item → (said : List ℕ) → Type 0
-IsPublishedOf client uri version blanks warns foreign shown text items said = (ds hints warned : List Data)
-    × AreDiagnostics client uri shown text items (told_of blanks shown items) ds
+IsPublishedOf client uri version blanks warns most foreign shown text items said =
+    (ds hints warned : List Data)
+    × AreShown client uri most shown text items (told_of blanks shown items) ds
     × AreForeignHints client.encoding shown text foreign hints
     × AreWarnedOf client uri warns shown text items warned
     × (said ≡ compact_text (published_data uri version
@@ -48,7 +60,7 @@ abbrev pub IsPublished : Client → (uri : List ℕ) → (version : ℤ) → Gro
 IsPublished client uri version on shown said = CompilesOn on shown (λ items. (foreign : List ForeignName)
     × AreForeign (on.files ++ constants_of on.blanks shown) on.from (compiled_of on.blanks shown) items
     foreign
-    × IsPublishedOf client uri version on.blanks on.warns foreign shown
+    × IsPublishedOf client uri version on.blanks on.warns on.most foreign shown
     (compiled_of on.blanks shown) items said)
 
 -- The faults of this text are published, as those of a document's version; or the user is shown that memory

@@ -8,7 +8,7 @@ use Rattle.x_documents.specs.declared.documents.Documents.{Documents}
 
 abbrev pub view_document : OpenDocument → Document
 view_document d = document_with (string_bytes d.uri) d.client
-    (ground_with d.files.items d.compiled.from_c d.blanks d.warns) d.version d.in_step d.shown
+    (ground_with d.files.items d.compiled.from_c d.blanks d.warns d.most) d.version d.in_step d.shown
 
 abbrev pub views : List OpenDocument → List Document
 views documents = map view_document documents

@@ -56,7 +56,7 @@ pub(crate) fn follow_text(
     ensures from_c { text.new.from_c ≡ text.old.from_c }
     ensures compiled { OnOk result (IsCompiled files.now blanks shown.now text.new) }
     ensures fault { IfErr result
-        (IsNotCompiled (ground_with files.now text.old.from_c blanks false) shown.now) }
+        (IsNotCompiled (ground_with files.now text.old.from_c blanks false 0) shown.now) }
 {
     let Ok(parts) = Parts::of(alloc, files, blanks, shown) else {
         return Err(EditFault::NoMemory);

@@ -10,14 +10,14 @@ ghost use Rattle.x_compile.specs.Faults.{fault_text};
 ghost use Rattle.x_session.specs.Session.{Compiles};
 ghost use Rattle.x_declared.specs.Foreign.{view_all};
 ghost use Rattle.x_directives.specs.Conditionals.{conditionals};
-ghost use Rattle.x_published.specs.Diagnostics.{AreDiagnostics, AreForeignHints, closing_data};
+ghost use Rattle.x_published.specs.Diagnostics.{AreForeignHints, closing_data};
 ghost use Rattle.x_published.specs.Diagnostics.{diagnostic_data, fault_number, hint_data};
 ghost use Rattle.x_published.specs.Published.{data_of};
-ghost use Rattle.x_documents.specs.Publishing.{IsPublishedOf};
+ghost use Rattle.x_documents.specs.Publishing.{AreShown, IsPublishedOf};
 ghost use Rattle.x_told.specs.Telling.{told_of};
 ghost use Rattle.x_positions.specs.Waymarks.{AreWaymarks};
 
-use crate::warned_names::add_warnings;
+use crate::warned_names::{add_some, add_warnings};
 use serde_json::json;
 use std::alloc::{AllocError, Global};
 use x_declared::ForeignName;
@@ -27,13 +27,13 @@ use x_frames::note;
 use x_positions::{Marker, Waymarks};
 use x_published::{
     Client, Diagnostic, FaultMessages, Message, OtherPlaces, Severity, branch_message,
-    foreign_message, place_of, published_text,
+    foreign_message, place_of, published_text, severity_of, unshown,
 };
 use x_session::Session;
 use x_text::NoMemory;
-use x_told::{told_faults, word_at};
+use x_told::{chosen_faults, word_at};
 
-/// What is told of a document beside its faults.
+/// How many faults of a document are told, and what beside them.
 #[derive(Clone, Copy, Debug)]
 pub struct Hints<'n> {
     /// Whether the lines of cpp are blanked: then those are told that begin branches, and in later branches
@@ -43,11 +43,14 @@ pub struct Hints<'n> {
     pub foreign: &'n [ForeignName<'n>],
     /// Whether names are told that clash in C.
     pub warns: bool,
+    /// How many faults are told at most.
+    pub most: usize,
 }
 
-/// The note that publishes the faults of a document: of what is compiled of its text, which is shown, by
-/// waymarks of that and by the messages of those that were published before; hints; and the names that clash
-/// in C. Keeps these faults among the waymarks, and their messages.
+/// The note that publishes the faults of a document, or the first of them and how many more there are: of
+/// what is compiled of its text, which is shown, by waymarks of that and by the messages of those that were
+/// published before; hints; and the names that clash in C. Keeps these faults among the waymarks, and their
+/// messages.
 pub fn publish(
     alloc: Global,
     client: Client,
@@ -62,7 +65,7 @@ pub fn publish(
     requires marks { AreWaymarks shown.now marks.old }
     requires encoding { marks.old.encoding ≡ client.encoding }
     ensures said { IfOk result (λ said. Compiles session.now.known session.now.text (λ items.
-        IsPublishedOf client uri.now version hints.now.blanks hints.now.warns
+        IsPublishedOf client uri.now version hints.now.blanks hints.now.warns hints.now.most
         (view_all hints.now.foreign.now) shown.now session.now.text items said.items)) }
     ensures marks { AreWaymarks shown.now marks.new }
     ensures encoding { marks.new.encoding ≡ marks.old.encoding }
@@ -72,7 +75,7 @@ pub fn publish(
         alloc,
         client,
         uri,
-        hints.blanks,
+        hints,
         shown,
         session,
         marks,
@@ -162,12 +165,13 @@ pub(crate) fn closing_note(alloc: Global, uri: &str) -> Result<Vec<u8>, AllocErr
     note(alloc, "textDocument/publishDiagnostics", params)
 }
 
-/// The diagnostics of what is compiled of a text. Marks where its faults stand.
+/// The diagnostics of what is compiled of a text: of the faults that are shown, whose places are marked, and
+/// of how many are not.
 fn diagnostics<'d>(
     alloc: Global,
     client: Client,
     uri: &'d str,
-    blanks: bool,
+    hints: &Hints,
     shown: &[u8],
     session: &Session,
     marks: &Waymarks,
@@ -181,14 +185,14 @@ fn diagnostics<'d>(
     ensures text { marker.new.text.now ≡ shown.now }
     ensures counted { marker.new.encoding ≡ client.encoding }
     ensures diagnostics { IfOk result (λ list. Compiles session.now.known session.now.text (λ items.
-        AreDiagnostics client uri.now shown.now session.now.text items
-        (told_of blanks shown.now items) (map data_of list.items))) }
+        AreShown client uri.now hints.now.most shown.now session.now.text items
+        (told_of hints.now.blanks shown.now items) (map data_of list.items))) }
 {
     let text = session.bytes();
-    let found = told_faults(alloc, blanks, shown, session)?;
-    let mut list = Vec::with_capacity(alloc, found.len())?;
+    let found = chosen_faults(alloc, hints.most, hints.blanks, shown, session)?;
+    let mut list = Vec::with_capacity(alloc, found.list.len())?;
     let mut others = OtherPlaces::of(client.shows_related, shown, marks, session);
-    for fault in &found {
+    for fault in &found.list {
         let start = fault.start;
         let range = marks.range(shown, start, fault.end);
         marker.mark_place(start, range.start)?;
@@ -199,11 +203,12 @@ fn diagnostics<'d>(
         let known = others.known(fault.code, start, word);
         let message = messages.next(alloc, fault.code, &known)?;
         list.push(Diagnostic {
-            severity: Severity::Error,
+            severity: severity_of(fault.code),
             message: Message::OfFault(message),
             range,
             related,
         })?;
     }
+    add_some(unshown(alloc, found.left)?, &mut list)?;
     Ok(list)
 }

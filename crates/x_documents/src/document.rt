@@ -52,6 +52,8 @@ pub struct OpenDocument {
     blanks: bool,
     /// Whether names that clash in C are published.
     warns: bool,
+    /// How many of its faults are published at most.
+    most: usize,
     /// What is compiled of it.
     pub(crate) compiled: FollowedText,
     /// Places of the text near which others are found.
@@ -83,7 +85,8 @@ impl OpenDocument {
         ensures uri { IfOk result (λ d. string_bytes d.uri ≡ uri.now) }
         ensures version { IfOk result (λ d. d.version ≡ version) }
         ensures standing { IfOk result
-            (λ d. ground_with d.files.items d.compiled.from_c d.blanks d.warns ≡ ground_of setting.now) }
+            (λ d. ground_with d.files.items d.compiled.from_c d.blanks d.warns d.most
+            ≡ ground_of setting.now) }
         ensures text { IfOk result (λ d. d.shown ≡ text.now) }
         ensures in_step { IfOk result (λ d. d.in_step ≡ true) }
         ensures small { OnOk result (length text.now ≤ most_text) }
@@ -113,6 +116,7 @@ impl OpenDocument {
             files,
             blanks: setting.blanks,
             warns: setting.warns,
+            most: setting.most,
             compiled,
             marks,
             messages: FaultMessages::new(alloc),
@@ -131,11 +135,13 @@ impl OpenDocument {
     ) -> Reply
         ensures changed { IsChanged
             (document_with (string_bytes self.old.uri) self.old.client
-            (ground_with self.old.files.items self.old.compiled.from_c self.old.blanks self.old.warns)
+            (ground_with self.old.files.items self.old.compiled.from_c self.old.blanks self.old.warns
+            self.old.most)
             self.old.version self.old.in_step self.old.shown)
             version (map replacement_of changes.now) (said_of result)
             (document_with (string_bytes self.new.uri) self.new.client
-            (ground_with self.new.files.items self.new.compiled.from_c self.new.blanks self.new.warns)
+            (ground_with self.new.files.items self.new.compiled.from_c self.new.blanks self.new.warns
+            self.new.most)
             self.new.version self.new.in_step self.new.shown) }
         ensures note { IsToNotification (said_of result) }
     {
@@ -169,15 +175,16 @@ impl OpenDocument {
         ensures fault { IfErr result (λ fault.
             IsStopped self.old.client.encoding self.old.shown fault (map replacement_of changes.now)
             ⊎ IsNotCompiled (ground_with self.old.files.items self.old.compiled.from_c self.old.blanks
-            self.old.warns)
+            self.old.warns self.old.most)
             (changed_by_all self.old.client.encoding self.old.shown (map replacement_of changes.now)) fault) }
         ensures in_step { self.new.in_step ≡ false }
         ensures client { self.new.client ≡ self.old.client }
         ensures uri { self.new.uri ≡ self.old.uri }
         ensures version { self.new.version ≡ self.old.version }
         ensures standing { ground_with self.new.files.items self.new.compiled.from_c self.new.blanks
-            self.new.warns
-            ≡ ground_with self.old.files.items self.old.compiled.from_c self.old.blanks self.old.warns }
+            self.new.warns self.new.most
+            ≡ ground_with self.old.files.items self.old.compiled.from_c self.old.blanks self.old.warns
+            self.old.most }
     {
         let changed = apply_changes(alloc, &mut self.shown, &mut self.marks, changes);
         let followed = follow_text(
@@ -195,10 +202,12 @@ impl OpenDocument {
     pub(crate) fn lose(&mut self) -> bool
         ensures fell { result ≡ self.old.in_step }
         ensures lost { document_with (string_bytes self.new.uri) self.new.client
-            (ground_with self.new.files.items self.new.compiled.from_c self.new.blanks self.new.warns)
+            (ground_with self.new.files.items self.new.compiled.from_c self.new.blanks self.new.warns
+            self.new.most)
             self.new.version self.new.in_step self.new.shown
             ≡ lost (document_with (string_bytes self.old.uri) self.old.client
-            (ground_with self.old.files.items self.old.compiled.from_c self.old.blanks self.old.warns)
+            (ground_with self.old.files.items self.old.compiled.from_c self.old.blanks self.old.warns
+            self.old.most)
             self.old.version self.old.in_step self.old.shown) }
     {
         mem::replace(&mut self.in_step, false)
@@ -208,14 +217,17 @@ impl OpenDocument {
     pub(crate) fn publish(&mut self, alloc: Global) -> Reply
         requires { self.old.in_step ≡ true }
         ensures says { Publishes self.old.client (string_bytes self.old.uri) self.old.version
-            (ground_with self.old.files.items self.old.compiled.from_c self.old.blanks self.old.warns)
+            (ground_with self.old.files.items self.old.compiled.from_c self.old.blanks self.old.warns
+            self.old.most)
             self.old.shown (said_of result) }
         ensures note { IsToNotification (said_of result) }
         ensures same { document_with (string_bytes self.new.uri) self.new.client
-            (ground_with self.new.files.items self.new.compiled.from_c self.new.blanks self.new.warns)
+            (ground_with self.new.files.items self.new.compiled.from_c self.new.blanks self.new.warns
+            self.new.most)
             self.new.version self.new.in_step self.new.shown
             ≡ document_with (string_bytes self.old.uri) self.old.client
-            (ground_with self.old.files.items self.old.compiled.from_c self.old.blanks self.old.warns)
+            (ground_with self.old.files.items self.old.compiled.from_c self.old.blanks self.old.warns
+            self.old.most)
             self.old.version self.old.in_step self.old.shown }
     {
         let compiled = &self.compiled;
@@ -226,6 +238,7 @@ impl OpenDocument {
             blanks: self.blanks,
             foreign: &foreign,
             warns: self.warns,
+            most: self.most,
         };
         match publish(
             alloc,

@@ -1,8 +1,9 @@
-//! How the documents of a client are compiled, and of what it is warned.
+//! How the documents of a client are compiled, how many of their faults it is shown, and of what it is
+//! warned.
 
 ghost use Rattle.std.specs.Prelude.{◌≡◌, option_map};
 ghost use Rattle.serde_json.specs.View.{view};
-ghost use Rattle.x_documents.specs.Grounds.{asked_on, blanks_of, flag_of, ground_of};
+ghost use Rattle.x_documents.specs.Grounds.{asked_on, blanks_of, flag_of, ground_of, most_of};
 
 use serde_json::Value;
 use x_frames::member;
@@ -19,6 +20,8 @@ pub struct Setting<'k> {
     pub blanks: bool,
     /// Whether names that clash in C are published.
     pub warns: bool,
+    /// How many faults of a document are published at most.
+    pub most: usize,
 }
 
 impl<'k> Setting<'k> {
@@ -37,6 +40,7 @@ impl<'k> Setting<'k> {
             },
             blanks: blanks(options).unwrap_or(self.blanks),
             warns: flag(options, "warnings").unwrap_or(self.warns),
+            most: most(options).unwrap_or(self.most),
         }
     }
 }
@@ -60,4 +64,12 @@ fn blanks(options: Option<&Value>) -> Option<bool>
     } else {
         None
     }
+}
+
+/// How many faults are to be published at most: one or more.
+fn most(options: Option<&Value>) -> Option<usize>
+    ensures { result ≡ most_of (option_map (λ o. view o.now) options.entry) }
+{
+    let most = member(options, "most")?.as_u64()? as usize;
+    if most == 0 { None } else { Some(most) }
 }

@@ -79,7 +79,7 @@ fn add_found<'d>(
 }
 
 /// Adds a diagnostic, if there is one.
-fn add_some<'d>(
+pub(crate) fn add_some<'d>(
     diagnostic: Option<Diagnostic<'d>>,
     list: &mut Vec<Diagnostic<'d>>,
 ) -> Result<(), NoMemory>

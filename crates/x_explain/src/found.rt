@@ -35,20 +35,11 @@ pub fn token_end(text: &[u8], start: usize) -> usize
     end
 }
 
-/// The faults of a session's text, in their order.
+/// The faults at these places of a text.
 ///
 /// They are listed before their tokens are looked at, and these before anything is said of them: such short
 /// steps wait for memory at many places at once, and not for one after the other.
-pub fn found_faults(alloc: Global, session: &Session) -> Result<Vec<FoundFault>, NoMemory>
-    ensures { IfOk result (λ found. Compiles session.now.known session.now.text (λ items.
-        AreFound session.now.text (places_of items) found.items)) }
-{
-    let places = listed(alloc, session)?;
-    found_at(alloc, session.bytes(), &places)
-}
-
-/// The faults at these places of a text.
-pub(crate) fn found_at(
+pub fn found_at(
     alloc: Global,
     text: &[u8],
     places: &[FaultPlace],
@@ -74,8 +65,8 @@ pub(crate) fn word_at(text: &[u8], start: usize, end: usize) -> &[u8]
     first_of(from, end.saturating_sub(start))
 }
 
-/// The places of the faults.
-fn listed(alloc: Global, session: &Session) -> Result<Vec<FaultPlace>, NoMemory>
+/// The places of the faults of a session's text, in their order.
+pub fn fault_places(alloc: Global, session: &Session) -> Result<Vec<FaultPlace>, NoMemory>
     ensures { IfOk result
         (λ places. Compiles session.now.known session.now.text (λ items. places.items ≡ places_of items)) }
 {

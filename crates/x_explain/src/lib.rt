@@ -16,7 +16,7 @@ mod suggestions;
 
 pub use explained::add_explained_faults;
 pub use facts::{FaultFacts, FaultNames, Known};
-pub use found::{FoundFault, found_faults, token_end};
+pub use found::{FoundFault, fault_places, found_at, token_end};
 pub use known_files::{FirstDeclaration, KnownFiles};
 pub use laws::mark_under_word;
 pub use sentences::{MEANT, MEANT_END, Sentence, sentence_of};

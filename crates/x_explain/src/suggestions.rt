@@ -103,7 +103,11 @@ fn sought(alloc: Global, session: &Session) -> Result<Vec<FaultPlace>, NoMemory>
 {
     let mut places = Vec::new(alloc);
     for place in session.fault_places() {
-        if is_unknown(place.code) && places.len() < MOST_WORDS {
+        if places.len() >= MOST_WORDS {
+            // Nothing behind is looked at, however many faults there are.
+            return Ok(places);
+        }
+        if is_unknown(place.code) {
             places.push(place)?;
         }
     }

@@ -28,6 +28,7 @@ fn a_change_is_published(rt: HostRuntime) -> Result<(), Fail> {
         blanks: true,
         foreign: &[],
         warns: true,
+        most: 1,
     };
     let note = publish(
         alloc,

@@ -11,4 +11,5 @@ pub const SETTING: Setting = Setting {
     },
     blanks: true,
     warns: true,
+    most: 1_000,
 };

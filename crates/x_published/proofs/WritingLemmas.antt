@@ -15,7 +15,7 @@ use Rattle.x_positions.specs.PositionData.{range_data}
 use Rattle.x_positions.specs.declared.range.Range.{Range}
 use Rattle.x_published.specs.declared.published.Diagnostic.{Diagnostic}
 use Rattle.x_published.specs.declared.published.Message.{Message}
-use Rattle.x_published.specs.declared.published.Message.TheVariants.{OfClash, OfFault}
+use Rattle.x_published.specs.declared.published.Message.TheVariants.{OfFault, Plain}
 use Rattle.x_published.specs.declared.published.Place.{Place}
 use Rattle.x_published.specs.declared.published.Severity.{Severity}
 use Rattle.x_published.specs.Diagnostics.{published_data, rest_members}
@@ -49,7 +49,7 @@ plain_rest s (Some p) = refl
 plain_message : (s : Severity) (r : Range) (m : Message) (o : Option Place)
     → has_float (message_data s (range_data r.start r.end) m (option_map place_data o)) ≡ false
 plain_message s r (OfFault m) o = plain_rest s o
-plain_message s r (OfClash text) o = plain_rest s o
+plain_message s r (Plain text) o = plain_rest s o
 
 plain_list : (ds : List Diagnostic) → items_have_float (items_of (map data_of ds)) ≡ false
 plain_list [] = refl

@@ -24,7 +24,7 @@ use Rattle.x_positions.specs.declared.range.Range.{Range}
 use Rattle.x_published.specs.declared.client.Client.{Client}
 use Rattle.x_positions.specs.declared.encoding.Encoding.{Encoding}
 use Rattle.x_published.specs.declared.published.Severity.{Severity}
-use Rattle.x_published.specs.declared.published.Severity.TheVariants.{Error, Hint, Warning}
+use Rattle.x_published.specs.declared.published.Severity.TheVariants.{Error, Hint, Information, Warning}
 use Rattle.x_frames.specs.Answers.{note_data}
 use Rattle.x_frames.specs.Framing.{number_of}
 use Rattle.x_positions.specs.Positions.{position_of}
@@ -49,7 +49,13 @@ declared_data uri = related_data (codes "first declared here") uri
 abbrev pub severity_number : Severity → ℕ
 severity_number Error = 1
 severity_number Warning = 2
+severity_number Information = 3
 severity_number Hint = 4
+
+-- how much a fault matters: that a name is used whose declarer has faults follows from those, and is no error
+abbrev pub severity_of : FaultCode → Severity
+severity_of (Rule UsesFaulty) = Information
+severity_of code = Error
 
 -- the members of a diagnostic behind its range; with the other place, if there is one
 abbrev pub last_members : Severity → Members
@@ -106,8 +112,9 @@ IsRangeAt encoding shown text (Some start) range = (end : ℕ) × IsEndOfToken t
       end = position_of encoding shown end;
     }))
 
--- What is published of a fault: its number, its name with a sentence, and the range of its token in the text
--- that is shown; and if the client shows that, the range of the token that declares its word first.
+-- What is published of a fault: how much it matters, its number, its name with a sentence, and the range of
+-- its token in the text that is shown; and if the client shows that, the range of the token that declares its
+-- word first.
 pub record IsDiagnostic (client : Client) (uri shown text : List ℕ) (items : List Item) (fault : FaultPlace)
     (data' : Data) : Type 0 where
   pub end : ℕ
@@ -116,7 +123,7 @@ pub record IsDiagnostic (client : Client) (uri shown text : List ℕ) (items : L
   pub token : IsEndOfToken text fault.start end
   pub other_is : IsRangeAt client.encoding shown text (other_place client.shows_related items fault.code
       (slice_range text fault.start end) fault.start) other
-  pub data_is : data' ≡ diagnostic_data Error (fault_number fault.code)
+  pub data_is : data' ≡ diagnostic_data (severity_of fault.code) (fault_number fault.code)
       (range_data (position_of client.encoding shown fault.start)
       (position_of client.encoding shown end))
       (fault_text fault.code ++ codes ": " ++ sentence) (option_map (declared_data uri) other)

@@ -3,4 +3,5 @@ pub mod Diagnostics
 pub mod FaultMessages
 pub mod OtherPlaces
 pub mod Published
+pub mod Unshown
 pub mod Warned

@@ -242,7 +242,8 @@ impl FaultMessages {
             return;
         }
         while let Some(diagnostic) = published.pop() {
-            if diagnostic.severity == Severity::Error
+            // A hint has the number of a fault too, and is none.
+            if diagnostic.severity != Severity::Hint
                 && keep_message(&mut self.list, diagnostic.message).is_err()
             {
                 return;
@@ -255,7 +256,7 @@ impl FaultMessages {
 fn keep_message(list: &mut Vec<FaultMessage>, message: Message) -> Result<(), AllocError> {
     match message {
         Message::OfFault(message) => list.push(message)?,
-        Message::OfClash(_text) => {}
+        Message::Plain(_text) => {}
     }
     Ok(())
 }

@@ -9,6 +9,7 @@ ghost use Rattle.serde_json.specs.Written.{compact_text};
 ghost use Rattle.x_published.specs.Diagnostics.{diagnostic_data, last_members, message_members, plain_data};
 ghost use Rattle.x_positions.specs.PositionData.{position_data, range_data};
 ghost use Rattle.x_published.specs.Diagnostics.{published_data, related_data, rest_members, severity_number};
+ghost use Rattle.x_published.specs.Diagnostics.{severity_of};
 ghost use Rattle.x_published.specs.Published.{data_of, place_data};
 
 use crate::fault_messages::FaultMessage;
@@ -16,6 +17,7 @@ use serde::{Described, Serialize, Serializer};
 use serde_json::Value;
 use std::alloc::{AllocError, Global};
 use x_positions::{Position, Range};
+use x_session::{FaultCode, RuleCode};
 
 /// How much a diagnostic matters.
 #[derive(Clone, Copy, Debug, PartialEq, Eq)]
@@ -24,6 +26,8 @@ pub enum Severity {
     Error,
     /// It says what C makes of a text that has no fault.
     Warning,
+    /// It is a fault that follows from others, or says how many faults are not shown.
+    Information,
     /// It says how the text is read.
     Hint,
 }
@@ -36,8 +40,20 @@ impl Severity {
         match self {
             Severity::Error => 1,
             Severity::Warning => 2,
+            Severity::Information => 3,
             Severity::Hint => 4,
         }
+    }
+}
+
+/// How much a fault matters: one that follows from others is no error.
+pub fn severity_of(code: FaultCode) -> Severity
+    ensures { result ≡ severity_of code }
+{
+    if matches!(code, FaultCode::Rule(RuleCode::UsesFaulty)) {
+        Severity::Information
+    } else {
+        Severity::Error
     }
 }
 
@@ -67,11 +83,11 @@ pub fn place_of<'d>(uri: &'d str, range: Option<Range>, said: &'static str) -> O
 pub enum Message {
     /// What is said of a fault, or as a hint: it has the number of a fault.
     OfFault(FaultMessage),
-    /// What is said of a name that clashes in C.
-    OfClash(String),
+    /// What has no number: what is said of a name that clashes in C, or of faults that are not shown.
+    Plain(String),
 }
 
-/// What is published of a fault, as a warning or as a hint.
+/// What is published of a fault, of a name, of a line of cpp, or of faults that are not shown.
 #[derive(Drop)]
 pub struct Diagnostic<'d> {
     /// How much it matters.
@@ -97,7 +113,7 @@ impl<'d> Serialize for Diagnostic<'d> {
             Message::OfFault(message) => {
                 write_with_code(out, self, message.number, message.text.as_str())
             }
-            Message::OfClash(text) => write_without_code(out, self, text.as_str()),
+            Message::Plain(text) => write_without_code(out, self, text.as_str()),
         }
     }
 }

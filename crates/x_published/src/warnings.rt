@@ -41,7 +41,7 @@ pub fn warned<'d>(
     let start = shown_start(client.shows_related, warning.other);
     Ok(Some(Diagnostic {
         severity: Severity::Warning,
-        message: Message::OfClash(warning_text(alloc, shown, marks, warning)?),
+        message: Message::Plain(warning_text(alloc, shown, marks, warning)?),
         range: marks.range(shown, spot.start, token_end(text, spot.start)),
         related: place_of(
             uri,

@@ -16,9 +16,7 @@ use Rattle.x_compile.proofs.Compiled.{one_compilation}
 use Rattle.x_directives.specs.Branches.{SayBranchesOf}
 use Rattle.x_directives.specs.declared.branches.Turn.{Turn}
 use Rattle.x_session.specs.Session.{Compiles}
-use Rattle.x_explain.specs.Found.{AreFound, IsEndOfToken, IsFound}
-use Rattle.x_explain.specs.declared.found.FoundFault.{FoundFault}
-use Rattle.x_explain.proofs.FoundLemmas.{found_more}
+use Rattle.x_explain.specs.Found.{IsEndOfToken}
 use Rattle.x_told.specs.Telling.{is_told, is_told_where, told_of, word_from}
 use Rattle.x_told.specs.Voices.{heard_in, heard_with, is_silent_voice, voice_at}
 use Rattle.x_told.specs.declared.telling.Voice.{Voice}
@@ -32,7 +30,7 @@ AreNames names items = (name : List ℕ) → first_in names name ≡ first_decla
 
 -- what is kept, and told, when these faults are left
 pub record IsHeard (known : KnownText) (text : List ℕ) (turns : List Turn) (names : List (List ℕ × Declarer))
-    (left : List FaultPlace) (voices : List Voice) (told : List FoundFault) : Type 0 where
+    (left : List FaultPlace) (voices : List Voice) (told : List FaultPlace) : Type 0 where
   pub tokens : List (Kind × ℕ)
   pub items : List Item
   pub compiled : IsCompilation known text tokens items
@@ -42,8 +40,7 @@ pub record IsHeard (known : KnownText) (text : List ℕ) (turns : List Turn) (na
   pub parts : done ++ left ≡ places_of items
   pub heard : (shown : List ℕ) → SayBranchesOf turns shown → (j : ℕ)
       → voice_at voices j ≡ heard_in (is_told shown items) done j
-  pub found : (shown : List ℕ) → SayBranchesOf turns shown
-      → AreFound text (filter (is_told shown items) done) told
+  pub tells : (shown : List ℕ) → SayBranchesOf turns shown → told ≡ filter (is_told shown items) done
 
 no_voice : (n j : ℕ) → voice_at (replicate n Faultless) j ≡ Faultless
 no_voice zero j = refl
@@ -51,7 +48,7 @@ no_voice (suc n) zero = refl
 no_voice (suc n) (suc j) = no_voice n j
 
 pub heard_none : (known : KnownText) (text : List ℕ) (turns : List Turn) (names : List (List ℕ × Declarer))
-    (left : List FaultPlace) (voices : List Voice) (told : List FoundFault) (count : ℕ)
+    (left : List FaultPlace) (voices : List Voice) (told : List FaultPlace) (count : ℕ)
     → Compiles known text (AreNames names) → Compiles known text (λ items. count ≡ length items)
     → Compiles known text (λ items. left ≡ places_of items) → voices ≡ replicate count Faultless → told ≡ []
     → IsHeard known text turns names left voices told
@@ -68,7 +65,7 @@ heard_none known text turns names left voices told count named counted listed vo
       done = [];
       parts = listed.3;
       heard = λ shown say j. ap (λ v. voice_at v j) voices_are ∙ no_voice count j;
-      found = λ shown say. subst (AreFound text []) (sym none) tt;
+      tells = λ shown say. none;
     }
 
 -- whether the next fault is told, by what is kept
@@ -80,7 +77,7 @@ IsToldNext text turns names voices p end b = (shown : List ℕ) → SayBranchesO
     → b ≡ is_told_where shown items (λ item. ltb item p.item && is_silent_voice (voice_at voices item)) p
 
 pub next_within : {known : KnownText} {text : List ℕ} {turns : List Turn} {names : List (List ℕ × Declarer)}
-    (left : List FaultPlace) (voices : List Voice) (told : List FoundFault) (p : FaultPlace)
+    (left : List FaultPlace) (voices : List Voice) (told : List FaultPlace) (p : FaultPlace)
     (rest : List FaultPlace) → left ≡ p ∷ rest → IsHeard known text turns names left voices told
     → p.item < length voices
 next_within {known} {text} left voices told p rest is h =
@@ -96,27 +93,22 @@ one_voice voices item b was now lt was_is now_is =
     (now_is ∙ ap (heard_with b) (was_is ∙ get_or_default voices item was Faultless lt))
 
 -- a fault more that is told, or is not
-told_more : (text : List ℕ) (test : FaultPlace → Bool) (done : List FaultPlace) (told : List FoundFault)
-    (p : FaultPlace) (f : FoundFault) (b : Bool) → test p ≡ b → IsFound text p f
-    → AreFound text (filter test done) told
-    → AreFound text (filter test (done ++ p ∷ [])) (cond b (told ++ f ∷ []) told)
-told_more text test done told p f true is found were =
-    subst (λ l. AreFound text l (told ++ f ∷ []))
-    (sym (filter-append test done (p ∷ []) ∙ ap (λ b. filter test done ++ cond b (p ∷ []) []) is))
-    (found_more text (filter test done) told p f were found)
-told_more text test done told p f false is found were =
-    subst (λ l. AreFound text l told)
-    (sym (filter-append test done (p ∷ []) ∙ ap (λ b. filter test done ++ cond b (p ∷ []) []) is
-    ∙ append-nil (filter test done)))
-    were
+told_more : (test : FaultPlace → Bool) (done told : List FaultPlace) (p : FaultPlace) (b : Bool) → test p ≡ b
+    → told ≡ filter test done → cond b (told ++ p ∷ []) told ≡ filter test (done ++ p ∷ [])
+told_more test done told p true is were =
+    ap (λ l. l ++ p ∷ []) were
+    ∙ sym (filter-append test done (p ∷ []) ∙ ap (λ b. filter test done ++ cond b (p ∷ []) []) is)
+told_more test done told p false is were =
+    were ∙ sym (filter-append test done (p ∷ []) ∙ ap (λ b. filter test done ++ cond b (p ∷ []) []) is
+    ∙ append-nil (filter test done))
 
 pub heard_next : {known : KnownText} (text : List ℕ) (turns : List Turn) (names : List (List ℕ × Declarer))
-    (left rest : List FaultPlace) (voices new : List Voice) (told more : List FoundFault) (p : FaultPlace)
-    (f : FoundFault) (end : ℕ) (b : Bool) → IsHeard known text turns names left voices told → left ≡ p ∷ rest
-    → IsEndOfToken text p.start end → IsToldNext text turns names voices p end b → IsFound text p f
-    → new ≡ set voices p.item (heard_with b (voice_at voices p.item)) → more ≡ cond b (told ++ f ∷ []) told
+    (left rest : List FaultPlace) (voices new : List Voice) (told more : List FaultPlace) (p : FaultPlace)
+    (end : ℕ) (b : Bool) → IsHeard known text turns names left voices told → left ≡ p ∷ rest
+    → IsEndOfToken text p.start end → IsToldNext text turns names voices p end b
+    → new ≡ set voices p.item (heard_with b (voice_at voices p.item)) → more ≡ cond b (told ++ p ∷ []) told
     → IsHeard known text turns names rest new more
-heard_next text turns names left rest voices new told more p f end b h is ends tells found new_is more_is =
+heard_next text turns names left rest voices new told more p end b h is ends tells new_is more_is =
     let parts = ap (λ l. h.done ++ l) (sym is) ∙ h.parts in
     let next = next_place text h.tokens h.items h.done p rest h.compiled parts in
     let so : (shown : List ℕ) → SayBranchesOf turns shown → is_told shown h.items p ≡ b =
@@ -133,19 +125,19 @@ heard_next text turns names left rest voices new told more p f end b h is ends t
       parts = append_assoc h.done (p ∷ []) rest ∙ parts;
       heard = λ shown say. heard_more (is_told shown h.items) h.done voices new p b (so shown say)
           (subst (λ n. p.item < n) (sym h.long) next.within) (h.heard shown say) new_is;
-      found = λ shown say. subst (AreFound text (filter (is_told shown h.items) (h.done ++ p ∷ []))) (sym more_is)
-          (told_more text (is_told shown h.items) h.done told p f b (so shown say) found (h.found shown say));
+      tells = λ shown say. more_is
+          ∙ told_more (is_told shown h.items) h.done told p b (so shown say) (h.tells shown say);
     }
 
 pub heard_all : {known : KnownText} (text : List ℕ) (turns : List Turn) (names : List (List ℕ × Declarer))
-    (left : List FaultPlace) (voices : List Voice) (told : List FoundFault)
+    (left : List FaultPlace) (voices : List Voice) (told : List FaultPlace)
     → IsHeard known text turns names left voices told → left ≡ [] → (shown : List ℕ)
-    → SayBranchesOf turns shown → Compiles known text (λ items. AreFound text (told_of true shown items) told)
+    → SayBranchesOf turns shown → Compiles known text (λ items. told ≡ told_of true shown items)
 heard_all text turns names left voices told h none shown say =
     let all : h.done ≡ places_of h.items =
     sym (append-nil h.done) ∙ ap (λ l. h.done ++ l) (sym none) ∙ h.parts in (
       h.tokens,
       h.items,
       h.compiled,
-      subst (λ l. AreFound text (filter (is_told shown h.items) l) told) all (h.found shown say),
+      h.tells shown say ∙ ap (filter (is_told shown h.items)) all,
     )

@@ -1,3 +1,4 @@
+mod ChosenLemmas
 mod HeardLemmas
 mod PlacedLemmas
 mod SilentLemmas

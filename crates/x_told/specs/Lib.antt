@@ -1,2 +1,3 @@
+pub mod Choosing
 pub mod Telling
 pub mod Voices

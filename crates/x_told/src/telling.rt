@@ -4,7 +4,7 @@ ghost use Rattle.std.specs.Prelude.{◌≡◌, ◌&&◌, ℕ, List, IfOk, nat_lt
 ghost use Rattle.std.specs.List.{filter, list_any};
 ghost use Rattle.x_compile.specs.Compile.{Item, definitions_of, tokens_of};
 ghost use Rattle.x_directives.specs.Branches.{SayBranchesOf};
-ghost use Rattle.x_explain.specs.Found.{AreFound, IsEndOfToken};
+ghost use Rattle.x_explain.specs.Found.{IsEndOfToken};
 ghost use Rattle.x_names.specs.Declarers.{first_declarer};
 ghost use Rattle.x_names.specs.DeclarerTable.{first_in};
 ghost use Rattle.x_session.specs.Session.{Compiles};
@@ -14,7 +14,7 @@ ghost use Rattle.x_told.specs.Voices.{heard_with, is_of_branch_by, is_silent_voi
 use std::alloc::Global;
 use x_declared::names;
 use x_directives::LaterBranches;
-use x_explain::{FoundFault, found_faults, token_end};
+use x_explain::{fault_places, token_end};
 use x_names::Names;
 use x_session::{FaultCode, FaultPlace, RuleCode, Session};
 use x_text::NoMemory;
@@ -54,16 +54,16 @@ impl Voice {
 /// # Errors
 ///
 /// [`NoMemory`] where a list could not grow.
-pub fn told_faults(
+pub(crate) fn told_faults(
     alloc: Global,
     blanks: bool,
     shown: &[u8],
     session: &Session,
-) -> Result<Vec<FoundFault>, NoMemory>
-    ensures { IfOk result (λ found. Compiles session.now.known session.now.text (λ items.
-        AreFound session.now.text (told_of blanks shown.now items) found.items)) }
+) -> Result<Vec<FaultPlace>, NoMemory>
+    ensures { IfOk result (λ told. Compiles session.now.known session.now.text (λ items.
+        told.items ≡ told_of blanks shown.now items)) }
 {
-    let found = found_faults(alloc, session)?;
+    let found = fault_places(alloc, session)?;
     if !blanks {
         return Ok(found);
     }
@@ -93,14 +93,14 @@ fn is_of_branch(branches: &LaterBranches, code: FaultCode, start: usize) -> bool
 }
 
 /// Whether a fault says that a name is used whose first declarer has faults.
-fn is_of_faulty(code: FaultCode) -> bool
+pub(crate) fn is_of_faulty(code: FaultCode) -> bool
     ensures { result ≡ is_of_faulty code }
 {
     matches!(code, FaultCode::Rule(RuleCode::UsesFaulty))
 }
 
 /// Whether one of the faults repeats a name in a later branch.
-fn has_repeat(branches: &LaterBranches, found: &[FoundFault]) -> bool
+fn has_repeat(branches: &LaterBranches, found: &[FaultPlace]) -> bool
     ensures { result ≡ list_any (λ f. is_of_branch_by branches.now f.code f.start) found.now }
 {
     for fault in found {
@@ -112,7 +112,7 @@ fn has_repeat(branches: &LaterBranches, found: &[FoundFault]) -> bool
 }
 
 /// Whether one of the faults may follow from others.
-fn has_use_of_faulty(found: &[FoundFault]) -> bool
+fn has_use_of_faulty(found: &[FaultPlace]) -> bool
     ensures { result ≡ list_any (λ f. is_of_faulty f.code) found.now }
 {
     for fault in found {
@@ -127,8 +127,8 @@ fn has_use_of_faulty(found: &[FoundFault]) -> bool
 fn without_repeats(
     alloc: Global,
     branches: &LaterBranches,
-    found: &[FoundFault],
-) -> Result<Vec<FoundFault>, NoMemory>
+    found: &[FaultPlace],
+) -> Result<Vec<FaultPlace>, NoMemory>
     ensures { IfOk result (λ told. told.items
         ≡ filter (λ f. not (is_of_branch_by branches.now f.code f.start)) found.now) }
 {
@@ -146,10 +146,10 @@ fn told_by_names(
     alloc: Global,
     session: &Session,
     branches: &LaterBranches,
-) -> Result<Vec<FoundFault>, NoMemory>
+) -> Result<Vec<FaultPlace>, NoMemory>
     ensures { (shown : List ℕ) → SayBranchesOf branches.now shown
         → IfOk result (λ told. Compiles session.now.known session.now.text (λ items.
-        AreFound session.now.text (told_of true shown items) told.items)) }
+        told.items ≡ told_of true shown items)) }
 {
     let text = session.bytes();
     let names = names(alloc, session)?;
@@ -161,11 +161,7 @@ fn told_by_names(
         let item = place.item as usize;
         voices[item] = voices[item].with(is_told);
         if is_told {
-            told.push(FoundFault {
-                code: place.code,
-                start: place.start,
-                end,
-            })?;
+            told.push(place)?;
         }
     }
     Ok(told)

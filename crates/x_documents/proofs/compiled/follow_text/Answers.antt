@@ -18,6 +18,6 @@ returns-clause-over c =
 
 pub returns-clause-fault : goal.returns-clause-fault
 returns-clause-fault c =
-    not_compiled c.replace.result c.args.files.now c.args.text.now.from_c c.args.blanks false c.args.shown.now
+    not_compiled c.replace.result c.args.files.now c.args.text.now.from_c c.args.blanks false 0 c.args.shown.now
     c.deref-else-eq.result.now c.deref-else-eq-2.result.now (c.deref-else-eq.ensures.value ∙ c.in-Ok.ensures.files)
     (c.deref-else-eq-2.ensures.value ∙ c.in-Ok.ensures.text) (λ e. merely (c.replace.ensures.large e)) c.replace.ensures.in_range

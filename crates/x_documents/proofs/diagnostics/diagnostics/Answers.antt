@@ -9,12 +9,15 @@ use Rattle.x_session.specs.Session.{Compiles, Document}
 use Rattle.x_explain.specs.declared.found.FoundFault.{FoundFault}
 use Rattle.x_published.specs.declared.published.Diagnostic.{Diagnostic}
 use Rattle.x_published.specs.declared.published.Message.TheVariants.{OfFault}
-use Rattle.x_published.specs.declared.published.Severity.TheVariants.{Error}
+use Rattle.x_published.specs.Unshown.{unshown_data}
+use Rattle.x_documents.specs.Publishing.{AreShown}
 use Rattle.x_positions.specs.declared.waymarks.Waymarks.{Waymarks}
 use Rattle.x_published.specs.Diagnostics.{AreDiagnostics, IsDiagnostic, IsRangeAt, diagnostic_data, fault_number, other_place}
 use Rattle.x_positions.specs.PositionData.{range_data}
 use Rattle.x_positions.specs.Positions.{position_of}
 use Rattle.x_published.specs.Published.{data_of}
+use Rattle.x_declared.proofs.DeclaredLemmas.{of_each}
+use Rattle.x_told.specs.Choosing.{AreChosen, chosen}
 use Rattle.x_told.specs.Telling.{told_of}
 use Rattle.x_published.proofs.DiagnosticLemmas.{begun_so, diagnostics_more, map-snoc, same_diagnostic}
 use Rattle.x_explain.proofs.FoundLemmas.{ends_there, found_to_the_last, next_at}
@@ -23,7 +26,9 @@ use Rattle.x_documents.proofs.diagnostics.diagnostics.Goals as goal
 pub word_at-word-requires : goal.word_at-word-requires
 word_at-word-requires c =
     let told = c.loop-fault.invariant.told in
-    ends_there c.bytes-text.result.now (told_of c.args.blanks c.args.shown.now told.1) c.deref-fault-items.result.now c.loop-fault.fault-index _ c.loop-fault-test.true told.3.0
+    let hints = c.args.hints.now in
+    ends_there c.bytes-text.result.now (chosen hints.most (told_of hints.blanks c.args.shown.now told.1))
+    c.deref-fault-items.result.now c.loop-fault.fault-index _ c.loop-fault-test.true told.3.0
 
 -- what stands where there is no fault
 abbrev no_fault : FoundFault
@@ -38,7 +43,8 @@ loop-fault-preserved c =
     let uri = c.args.uri.now in
     let inv = c.loop-fault.invariant in
     let are = inv.told in
-    let all = told_of c.args.blanks shown are.1 in
+    let hints = c.args.hints.now in
+    let all = chosen hints.most (told_of hints.blanks shown are.1) in
     let i = c.loop-fault.fault-index in
     let ds = c.deref-fault-items.result.now in
     let fault = get_or ds i no_fault in
@@ -57,7 +63,7 @@ loop-fault-preserved c =
     let sentence = drop (length front) (string_bytes message.text) in
     let said : string_bytes message.text ≡ fault_text f.code ++ codes ": " ++ sentence = begun_so front (string_bytes message.text) begins in
     let numbered : message.number ≡ fault_number f.code = message.numbered ∙ ap fault_number same in
-    let value : Diagnostic = record { severity = Error; message = OfFault message; range = c.range-range.result; related = c.place_of-related.result } in
+    let value : Diagnostic = record { severity = c.severity_of.result; message = OfFault message; range = c.range-range.result; related = c.place_of-related.result } in
     let others = c.loop-fault.others in
     let word = c.word_at-word.result.now in
     let seen : text ≡ others.session.now.text = c.bytes-text.ensures ∙ sym (ap (λ (d : Document). d.text) inv.session) in
@@ -74,7 +80,7 @@ loop-fault-preserved c =
       other = c.in_ok-other.other;
       token = ends_there text all ds i no_fault c.loop-fault-test.true are.3.0;
       other_is = subst (λ w. IsRangeAt e shown text (other_place client.shows_related are.1 f.code w start) c.in_ok-other.other) c.word_at-word.ensures other;
-      data_is = λ i. diagnostic_data Error (numbered i) (range_data (first i) (second i)) (said i) (c.place_of-related.ensures i);
+      data_is = λ i. diagnostic_data (c.severity_of.ensures i) (numbered i) (range_data (first i) (second i)) (said i) (c.place_of-related.ensures i);
     } in
     let listed = ap (map data_of) c.in_ok-push.ensures.items ∙ map-snoc data_of c.loop-fault.list.items value in
     let next = next_at text all ds i no_fault c.loop-fault-test.true are.3.0 in
@@ -107,7 +113,23 @@ returns-clause-diagnostics c =
     let text = c.bytes-text.result.now in
     let client = c.args.client in
     let uri = c.args.uri.now in
+    let hints = c.args.hints.now in
+    let known = c.args.session.now.known in
     let ds = map data_of c.loop-fault.list.items in
-    let all = found_to_the_last text (told_of c.args.blanks shown told.1) c.deref-fault-items.result.now c.loop-fault.fault-index c.loop-fault-test.false told.3.0 in
-    subst (λ t. Compiles c.args.session.now.known t (λ items. AreDiagnostics client uri shown t items (told_of c.args.blanks shown items) ds)) c.bytes-text.ensures
-    (told.0, told.1, told.2, subst (λ l. AreDiagnostics client uri shown text told.1 l ds) all told.3.1)
+    let all = told_of hints.blanks shown told.1 in
+    let whole = found_to_the_last text (chosen hints.most all) c.deref-fault-items.result.now c.loop-fault.fault-index
+    c.loop-fault-test.false told.3.0 in
+    let found = subst (λ t. Compiles known t (λ items. AreChosen hints.most t (told_of hints.blanks shown items)
+    c.in_ok-found.found.list.items c.in_ok-found.found.left)) (sym c.bytes-text.ensures) c.in_ok-found.ensures in
+    let left = (of_each text found told.0 told.1 told.2).1 in
+    subst (λ t. Compiles known t (λ items. AreShown client uri hints.most shown t items
+    (told_of hints.blanks shown items) (map data_of c.add_some.new.list.items))) c.bytes-text.ensures (
+      told.0,
+      told.1,
+      told.2,
+      (
+        ds,
+        subst (λ l. AreDiagnostics client uri shown text told.1 l ds) whole told.3.1,
+        c.in_ok-add_some.ensures ∙ ap (λ l. ds ++ l) (c.in_ok-unshown.ensures ∙ ap unshown_data left),
+      ),
+    )

@@ -4,6 +4,7 @@ use Rattle.x_published.specs.OtherPlaces.{AreOfText}
 use Rattle.x_published.specs.Diagnostics.{AreDiagnostics}
 use Rattle.x_explain.specs.Found.{AreFound}
 use Rattle.x_published.specs.Published.{data_of}
+use Rattle.x_told.specs.Choosing.{chosen}
 use Rattle.x_told.specs.Telling.{told_of}
 use Rattle.x_documents.proofs.diagnostics.diagnostics.Given as goal
 
@@ -16,6 +17,8 @@ invariant-loop-fault l = record {
   text : l.others.text.now ≡ l.fn.shown;
   marked : l.marker.text.now ≡ l.fn.shown;
   counted : l.marker.encoding ≡ l.fn.client.encoding;
-  told : Compiles l.fn.session.known l.text (λ items. AreFound l.text (told_of l.blanks l.fn.shown items) l.fault-items
-      × AreDiagnostics l.fn.client l.fn.uri l.fn.shown l.text items (take l.fault-index (told_of l.blanks l.fn.shown items)) (map data_of l.list.items));
+  told : Compiles l.fn.session.known l.text (λ items.
+      AreFound l.text (chosen l.hints.most (told_of l.hints.blanks l.fn.shown items)) l.fault-items
+      × AreDiagnostics l.fn.client l.fn.uri l.fn.shown l.text items
+      (take l.fault-index (chosen l.hints.most (told_of l.hints.blanks l.fn.shown items))) (map data_of l.list.items));
 }

@@ -3,7 +3,7 @@ use Rattle.std.specs.Prelude.{Some, option_map}
 use Rattle.x_positions.specs.Positions.{position_of}
 use Rattle.x_positions.specs.PositionData.{range_data}
 use Rattle.x_published.specs.declared.published.Diagnostic.{Diagnostic}
-use Rattle.x_published.specs.declared.published.Message.TheVariants.{OfClash}
+use Rattle.x_published.specs.declared.published.Message.TheVariants.{Plain}
 use Rattle.x_published.specs.declared.published.Severity.TheVariants as severity
 use Rattle.x_published.specs.Diagnostics.{IsRangeAt, plain_data}
 use Rattle.x_published.specs.Published.{data_of}
@@ -22,7 +22,7 @@ returns c =
     let spot = c.in-Some.spot in
     let made : Diagnostic = record {
       severity = severity.Warning;
-      message = OfClash c.in_ok-warning_text.field-0;
+      message = Plain c.in_ok-warning_text.field-0;
       range = c.range.result;
       related = c.place_of.result;
     } in

@@ -1,8 +1,7 @@
-use Rattle.std.proofs.Common.{◌≡◌, ◌<◌, ◌++◌, ◌∷◌, [], ◌∙◌, ap, cond, length, refl, rules, set, sym, subst}
+use Rattle.std.proofs.Common.{◌≡◌, ◌<◌, ◌++◌, ◌∷◌, [], ◌∙◌, ap, cond, length, rules, set, sym, subst}
 use Rattle.x_names.specs.DeclarerTable.{names_in}
 use Rattle.x_compile.specs.Compile.{places_of}
 use Rattle.x_session.specs.Session.{Compiles}
-use Rattle.x_explain.specs.declared.found.FoundFault.{FoundFault}
 use Rattle.x_told.proofs.HeardLemmas.{AreNames, IsHeard, IsToldNext, heard_next, heard_none, next_within, one_voice}
 use Rattle.x_told.proofs.telling.told_by_names.Goals as goal
 
@@ -46,18 +45,16 @@ loop-place-preserved-in-Continue-branch-3 c =
     let p = c.in-Some.place in
     let end = c.token_end-end.result in
     let b = c.is_told-is_told.result in
-    let f : FoundFault = record { code = p.code; start = p.start; end = end } in
     heard_next text turns names c.loop-place.place-iterator c.next.new.self voices
-    (set voices p.item c.with.result) told c.push.new.self.items p f end b c.loop-place.invariant
+    (set voices p.item c.with.result) told c.push.new.self.items p end b c.loop-place.invariant
     c.in-Some.ensures.steps c.token_end-end.ensures
     (subst (λ v. IsToldNext text turns names v p end b) c.deref.ensures.value
     (λ shown say items named word. c.is_told-is_told.ensures shown say items
     (subst (λ n. AreNames n items) c.names-2.view_is named) word))
-    (record { code = refl; start = refl; end = c.token_end-end.ensures })
     (one_voice voices p.item b c.index.result.now c.with.result
     (next_within c.loop-place.place-iterator voices told p c.next.new.self c.in-Some.ensures.steps
     c.loop-place.invariant) c.index.ensures c.with.ensures)
-    (c.in_ok-push.ensures.items ∙ sym (ap (λ b. cond b (told ++ f ∷ []) told) c.if-is_told.true))
+    (c.in_ok-push.ensures.items ∙ sym (ap (λ b. cond b (told ++ p ∷ []) told) c.if-is_told.true))
 
 pub loop-place-preserved : goal.loop-place-preserved
 loop-place-preserved c =
@@ -69,15 +66,13 @@ loop-place-preserved c =
     let p = c.in-Some.place in
     let end = c.token_end-end.result in
     let b = c.is_told-is_told.result in
-    let f : FoundFault = record { code = p.code; start = p.start; end = end } in
     heard_next text turns names c.loop-place.place-iterator c.next.new.self voices
-    (set voices p.item c.with.result) told told p f end b c.loop-place.invariant
+    (set voices p.item c.with.result) told told p end b c.loop-place.invariant
     c.in-Some.ensures.steps c.token_end-end.ensures
     (subst (λ v. IsToldNext text turns names v p end b) c.deref.ensures.value
     (λ shown say items named word. c.is_told-is_told.ensures shown say items
     (subst (λ n. AreNames n items) c.names-2.view_is named) word))
-    (record { code = refl; start = refl; end = c.token_end-end.ensures })
     (one_voice voices p.item b c.index.result.now c.with.result
     (next_within c.loop-place.place-iterator voices told p c.next.new.self c.in-Some.ensures.steps
     c.loop-place.invariant) c.index.ensures c.with.ensures)
-    (sym (ap (λ b. cond b (told ++ f ∷ []) told) c.if-is_told.false))
+    (sym (ap (λ b. cond b (told ++ p ∷ []) told) c.if-is_told.false))

@@ -20,8 +20,8 @@ returns-then-was_in_step-clause-changed c =
     let old = c.args.self.now in
     let new = c.carry_out.new.self in
     let left = c.in-Err.ensures in
-    let on = ground_with old.files.items old.compiled.from_c old.blanks old.warns in
-    let on' = ground_with new.files.items new.compiled.from_c new.blanks new.warns in
+    let on = ground_with old.files.items old.compiled.from_c old.blanks old.warns old.most in
+    let on' = ground_with new.files.items new.compiled.from_c new.blanks new.warns new.most in
     let list = map replacement_of c.args.changes.now in
     let said = said_of c.told.result in
     refused_so (string_bytes old.uri) old.client on old.version old.in_step old.shown c.args.version list said _ c.in-Err.fault
@@ -35,8 +35,8 @@ returns-else-was_in_step-clause-changed c =
     let old = c.args.self.now in
     let new = c.carry_out.new.self in
     let left = c.in-Err.ensures in
-    let on = ground_with old.files.items old.compiled.from_c old.blanks old.warns in
-    let on' = ground_with new.files.items new.compiled.from_c new.blanks new.warns in
+    let on = ground_with old.files.items old.compiled.from_c old.blanks old.warns old.most in
+    let on' = ground_with new.files.items new.compiled.from_c new.blanks new.warns new.most in
     let list = map replacement_of c.args.changes.now in
     refused_so (string_bytes old.uri) old.client on old.version old.in_step old.shown c.args.version list None _ c.in-Err.fault
     (begins old.in_step (begin_whole list) (sym c.are_passed_over.ensures ∙ c.if-are_passed_over.false)) left.fault
@@ -49,8 +49,8 @@ returns-clause-changed c =
     let old = c.args.self.now in
     let new = c.carry_out.new.self in
     let left = c.in_default.ensures in
-    let on = ground_with old.files.items old.compiled.from_c old.blanks old.warns in
-    let on' = ground_with new.files.items new.compiled.from_c new.blanks new.warns in
+    let on = ground_with old.files.items old.compiled.from_c old.blanks old.warns old.most in
+    let on' = ground_with new.files.items new.compiled.from_c new.blanks new.warns new.most in
     let list = map replacement_of c.args.changes.now in
     let text = changed_by_all old.client.encoding old.shown list in
     let uri = string_bytes old.uri in

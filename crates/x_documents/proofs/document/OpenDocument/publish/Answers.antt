@@ -24,13 +24,13 @@ returns-in-Ok-publish-clause-says c =
     let front = d.files.items ++ constants_of d.blanks d.shown in
     let names = view_all c.in-Ok.foreign.items in
     let published = subst (λ n. Compiles known text (λ items. IsPublishedOf d.client (string_bytes d.uri)
-    d.version d.blanks d.warns (view_all n) d.shown text items said)) c.deref.ensures.value
+    d.version d.blanks d.warns d.most (view_all n) d.shown text items said)) c.deref.ensures.value
     (subst (λ s. Compiles known text (λ items. IsPublishedOf d.client (string_bytes d.uri) d.version d.blanks
-    d.warns (view_all c.deref.result.now) s text items said)) c.bytes.ensures.text
+    d.warns d.most (view_all c.deref.result.now) s text items said)) c.bytes.ensures.text
     (subst (λ u. Compiles known text (λ items. IsPublishedOf d.client u d.version d.blanks
-    d.warns (view_all c.deref.result.now) c.bytes.result.now text items said)) c.as_str.ensures.value
+    d.warns d.most (view_all c.deref.result.now) c.bytes.result.now text items said)) c.as_str.ensures.value
     (subst (λ v. Compiles known text (λ items. IsPublishedOf d.client c.as_str.result.now v d.blanks
-    d.warns (view_all c.deref.result.now) c.bytes.result.now text items said))
+    d.warns d.most (view_all c.deref.result.now) c.bytes.result.now text items said))
     (to_z-of_z w64 d.version (search rules)) c.in-Ok-publish.ensures.said))) in
     let items = published.1 in
     inl (
@@ -42,7 +42,8 @@ returns-in-Ok-publish-clause-says c =
             (subst (λ f. IsBefore f from text known) is.files_are before),
         subst (λ t. Compiles known t (λ items. (foreign : List ForeignName)
             × AreForeign front from t items foreign
-            × IsPublishedOf d.client (string_bytes d.uri) d.version d.blanks d.warns foreign d.shown t items said))
+            × IsPublishedOf d.client (string_bytes d.uri) d.version d.blanks d.warns d.most foreign d.shown t items
+            said))
             is.text_is (
               published.0,
               items,

@@ -20,8 +20,8 @@ returns-in-OfFault g c =
     (diagnostic_data d.severity c.in-OfFault.message.number range t related) old new))
     c.as_str.ensures.value c.write_with_code.ensures)
 
-pub returns-in-OfClash : goal.returns-in-OfClash
-returns-in-OfClash g c =
+pub returns-in-Plain : goal.returns-in-Plain
+returns-in-Plain g c =
     let w = g.S.Serializer.written in
     let d = c.args.self.now in
     let range = range_data d.range.start d.range.end in
@@ -29,6 +29,6 @@ returns-in-OfClash g c =
     let r = c.write_without_code.result in
     let old = w c.args.out.now in
     let new = w c.write_without_code.new.out in
-    subst (λ m. OnOk r (SendsValue (message_data d.severity range m related) old new)) (sym c.in-OfClash.is)
+    subst (λ m. OnOk r (SendsValue (message_data d.severity range m related) old new)) (sym c.in-Plain.is)
     (subst (λ t. OnOk r (SendsValue (plain_data d.severity range t related) old new))
-    c.as_str-in-OfClash.ensures.value c.write_without_code.ensures)
+    c.as_str-in-Plain.ensures.value c.write_without_code.ensures)

@@ -1,5 +1,5 @@
 use Rattle.std.proofs.Common.{◌∙◌, ◌++◌, ap, sym, append-nil}
-use Rattle.x_explain.proofs.found.listed.Goals as goal
+use Rattle.x_explain.proofs.found.fault_places.Goals as goal
 
 pub returns : goal.returns
 returns c =

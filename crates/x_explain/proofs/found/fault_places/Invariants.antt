@@ -1,5 +1,5 @@
 use Rattle.std.proofs.Common.{◌≡◌, ◌++◌}
-use Rattle.x_explain.proofs.found.listed.Given as goal
+use Rattle.x_explain.proofs.found.fault_places.Given as goal
 
 -- the places so far, and those that are left
 abbrev pub invariant-loop-place : goal.invariant-loop-place
