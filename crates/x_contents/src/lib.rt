@@ -1,5 +1,5 @@
-//! What a whole document contains, for an editor (LSP 3.17): what it defines, which of its lines fold, what each
-//! of its tokens is, and what is generated of it.
+//! What a whole document contains, for an editor (LSP 3.17): what it defines, which of its lines fold, what
+//! each of its tokens is, and what is generated of it.
 #![tactic(auto)]
 
 mod answers;

@@ -20,7 +20,8 @@ use Rattle.x_prelude.specs.Before.{IsCrowded}
 use Rattle.x_published.specs.Diagnostics.{closing_data}
 use Rattle.x_published.specs.declared.client.Client.{Client}
 use Rattle.x_documents.specs.Changes.{change_by, changed_by_all}
-use Rattle.x_documents.specs.Documents.{Document, document_of, is_in_step, lost, opened_as, put, unread, without}
+use Rattle.x_documents.specs.Documents.{Document, document_of, is_in_step, lost, opened_as, put, unread}
+use Rattle.x_documents.specs.Documents.{without}
 use Rattle.x_documents.specs.Grounds.{Ground, compiled_of, constants_of}
 use Rattle.x_documents.specs.Publishing.{Publishes}
 

@@ -1,5 +1,5 @@
-//! The documents that a client has open (LSP 3.17, "Text Document Synchronization"): the changes that it makes,
-//! what is compiled of their texts, what is published of them, and when one is out of step.
+//! The documents that a client has open (LSP 3.17, "Text Document Synchronization"): the changes that it
+//! makes, what is compiled of their texts, what is published of them, and when one is out of step.
 #![tactic(auto)]
 
 mod changes;

@@ -25,8 +25,8 @@ pub struct Setting<'k> {
 }
 
 impl<'k> Setting<'k> {
-    /// The setting that a client asks for as it initializes the server (LSP 3.17, `initializationOptions`): what
-    /// it does not name stays.
+    /// The setting that a client asks for as it initializes the server (LSP 3.17, `initializationOptions`):
+    /// what it does not name stays.
     pub fn asked(self, params: Option<&Value>) -> Setting<'k>
         ensures { ground_of result
             ≡ asked_on (ground_of self.entry) (option_map (λ p. view p.now) params.entry) }

@@ -1,5 +1,5 @@
-//! A language server of `.x` files (LSP 3.17): what is said to each message of a client, and a conversation with
-//! it.
+//! A language server of `.x` files (LSP 3.17): what is said to each message of a client, and a conversation
+//! with it.
 #![tactic(auto)]
 
 mod running;
