@@ -1,2 +1,3 @@
 pub mod DocumentTexts
+pub mod Refusing
 pub mod Symbols
