@@ -4,6 +4,7 @@ ghost use Rattle.std.specs.Prelude.{◌≡◌, false, true, IfErr, IfOk};
 ghost use Rattle.serde_json.specs.View.{view};
 ghost use Rattle.serde_json.specs.Written.{has_float};
 ghost use Rattle.x_frames.specs.Lives.{is_of_request};
+ghost use Rattle.x_questions.specs.Refusing.{RefusesUnparsed};
 
 use crate::completion::completion;
 use crate::hover::hover;
@@ -99,6 +100,7 @@ fn references(
 ) -> Result<Value, ErrorCode>
     ensures value { IfOk result (λ v. has_float (view v) ≡ false) }
     ensures code { IfErr result (λ code. is_of_request code ≡ true) }
+    ensures refused { RefusesUnparsed document.now.compiled.now.session document.now.shown.now at result }
 {
     match unparsed_use_at(alloc, &document.compiled.session, at) {
         Ok(Some(token)) => Err(name_unparsed(encoding, document, &token)),

@@ -4,6 +4,7 @@ ghost use Rattle.std.specs.Prelude.{◌≡◌, false, true, IfErr, IfOk, IfSome}
 ghost use Rattle.serde_json.specs.View.{view};
 ghost use Rattle.serde_json.specs.Written.{has_float};
 ghost use Rattle.x_frames.specs.Lives.{is_of_request};
+ghost use Rattle.x_questions.specs.Refusing.{RefusesUnparsed};
 
 use crate::locations::{name_unparsed, range_of};
 use crate::open_text::OpenText;
@@ -52,6 +53,7 @@ pub(crate) fn rename(
 ) -> Result<Value, ErrorCode>
     ensures value { IfOk result (λ v. has_float (view v) ≡ false) }
     ensures code { IfErr result (λ code. is_of_request code ≡ true) }
+    ensures refused { RefusesUnparsed document.now.compiled.now.session document.now.shown.now at result }
 {
     match renamed(alloc, encoding, document, at, name) {
         Ok(renamed) => renamed,
@@ -69,11 +71,27 @@ fn renamed(
 ) -> Result<Result<Value, ErrorCode>, NoMemory>
     ensures value { IfOk result (λ r. IfOk r (λ v. has_float (view v) ≡ false)) }
     ensures code { IfOk result (λ r. IfErr r (λ code. is_of_request code ≡ true)) }
+    ensures refused { IfOk result (λ r.
+        RefusesUnparsed document.now.compiled.now.session document.now.shown.now at r) }
+{
+    match unparsed_use_at(alloc, &document.compiled.session, at)? {
+        Some(token) => Ok(Err(name_unparsed(encoding, document, &token))),
+        None => renamed_as_parsed(alloc, encoding, document, at, name),
+    }
+}
+
+/// The same of a name at a place that stands in no item that does not parse.
+fn renamed_as_parsed(
+    alloc: Global,
+    encoding: Encoding,
+    document: &OpenText,
+    at: usize,
+    name: &str,
+) -> Result<Result<Value, ErrorCode>, NoMemory>
+    ensures value { IfOk result (λ r. IfOk r (λ v. has_float (view v) ≡ false)) }
+    ensures code { IfOk result (λ r. IfErr r (λ code. is_of_request code ≡ true)) }
 {
     let session = &document.compiled.session;
-    if let Some(token) = unparsed_use_at(alloc, session, at)? {
-        return Ok(Err(name_unparsed(encoding, document, &token)));
-    }
     let names = names(alloc, session)?;
     let Some(found) = declared_name_at(alloc, session, &names, at)? else {
         return Ok(Err(ErrorCode::RequestFailed));
