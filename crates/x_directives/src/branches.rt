@@ -48,7 +48,7 @@ impl Model for LaterBranches {
 }
 
 impl LaterBranches {
-    ghost use Rattle.std.specs.Prelude.{IfOk};
+    ghost use Rattle.std.specs.Prelude.{[], IfOk, IsTrue};
     ghost use Rattle.x_directives.specs.Branches.{said_of, SayBranchesOf};
 
     /// Those of a text. A place on the line of a directive is behind that directive.
@@ -74,6 +74,13 @@ impl LaterBranches {
             }
         }
         Ok(LaterBranches { turns })
+    }
+
+    /// Whether the text has no conditional at all.
+    pub fn is_empty(&self) -> bool
+        ensures { IsTrue result → self.now ≡ [] }
+    {
+        self.turns.is_empty()
     }
 
     /// Whether the place stands in such a branch.

@@ -1,7 +1,8 @@
 -- Which faults are chosen.
 use Rattle.std.proofs.Common.{◌≡◌, ℕ, zero, suc, ◌+◌, ◌-◌, ◌<◌, ◌≤◌, arith, Bool, true, false, cond, List, [], ◌∷◌}
-use Rattle.std.proofs.Common.{◌++◌, length, drop, get_or, append_assoc, refl, sym, ap, subst, ◌∙◌}
+use Rattle.std.proofs.Common.{◌++◌, append-nil, length, length-append, drop, get_or, append_assoc, refl, sym, ap, ◌∙◌}
 use Rattle.std.proofs.lemmas.List.{drop_more}
+use Rattle.std.proofs.lemmas.List.Elements.{filter-append}
 use Rattle.std.specs.Prelude.{not}
 use Rattle.std.specs.List.{filter}
 use Rattle.x_compile.specs.declared.fault.FaultPlace.{FaultPlace}
@@ -131,6 +132,89 @@ none_lost most told =
     let consequences = counted is_consequence shown room in
     let stay = ap (λ l. length l) (others_stay is_error is_consequence no_consequence told most) in
     omega (arith, parts, errors, consequences, stay)
+
+-- ---- the first faults
+
+-- no element passes a test and its opposite
+none_of_both : (ps : List FaultPlace) → filter is_error (filter is_consequence ps) ≡ []
+none_of_both [] = refl
+none_of_both (p ∷ ps) = by (is_consequence p) refl (none_of_both ps)
+  where
+    by : (b : Bool) → is_consequence p ≡ b → filter is_error (filter is_consequence ps) ≡ []
+        → filter is_error (filter is_consequence (p ∷ ps)) ≡ []
+    by true e rest =
+        ap (λ b. filter is_error (cond b (p ∷ filter is_consequence ps) (filter is_consequence ps))) e
+        ∙ ap (λ b. cond (not b) (p ∷ filter is_error (filter is_consequence ps))
+        (filter is_error (filter is_consequence ps))) e
+        ∙ rest
+    by false e rest =
+        ap (λ b. filter is_error (cond b (p ∷ filter is_consequence ps) (filter is_consequence ps))) e ∙ rest
+
+-- what is no error is a consequence
+not_error : (ps : List FaultPlace) → filter (λ p. not (is_error p)) ps ≡ filter is_consequence ps
+not_error ps = ap (λ t. filter t ps) (λ i p. twice (is_consequence p) i)
+  where
+    twice : (b : Bool) → not (not b) ≡ b
+    twice true = refl
+    twice false = refl
+
+-- behind so many errors none is shown
+abbrev EnoughIn : List FaultPlace → Type 0
+EnoughIn ps = (n : ℕ) → n ≤ length (filter is_error ps) → (rest : List FaultPlace)
+    → with_first n is_error (ps ++ rest) ≡ with_first n is_error ps ++ filter is_consequence rest
+
+one_enough : (p : FaultPlace) (ps : List FaultPlace) → EnoughIn ps → (n : ℕ)
+    → n ≤ length (filter is_error (p ∷ ps)) → (rest : List FaultPlace) → (b : Bool) → is_error p ≡ b
+    → with_first n is_error (p ∷ ps ++ rest) ≡ with_first n is_error (p ∷ ps) ++ filter is_consequence rest
+one_enough p ps enough n few rest false is =
+    let many = ap (λ b. length (cond b (p ∷ filter is_error ps) (filter is_error ps))) is in
+    passed is_error n p (ps ++ rest) is ∙ ap (λ l. p ∷ l) (enough n (omega (arith, many, few)) rest)
+    ∙ ap (λ l. l ++ filter is_consequence rest) (sym (passed is_error n p ps is))
+one_enough p ps enough zero few rest true is =
+    dropped is_error p (ps ++ rest) is ∙ enough zero (omega arith) rest
+    ∙ ap (λ l. l ++ filter is_consequence rest) (sym (dropped is_error p ps is))
+one_enough p ps enough (suc n) few rest true is =
+    let many = ap (λ b. length (cond b (p ∷ filter is_error ps) (filter is_error ps))) is in
+    taken is_error n p (ps ++ rest) is ∙ ap (λ l. p ∷ l) (enough n (omega (arith, many, few)) rest)
+    ∙ ap (λ l. l ++ filter is_consequence rest) (sym (taken is_error n p ps is))
+
+enough_in : (ps : List FaultPlace) → EnoughIn ps
+enough_in [] zero few rest = not_error rest
+enough_in [] (suc n) few rest = absurd (omega (arith, few))
+enough_in (p ∷ ps) n few rest = one_enough p ps (enough_in ps) n few rest (is_error p) refl
+
+-- so what stands behind them does not matter
+pub enough_errors : (most : ℕ) (ps rest : List FaultPlace) → most ≤ length (filter is_error ps)
+    → chosen most ps ≡ chosen most (ps ++ rest)
+enough_errors most ps rest few =
+    let long = ap (λ l. length l) (filter-append is_error ps rest)
+    ∙ length-append (filter is_error ps) (filter is_error rest) in
+    let here : most - length (filter is_error ps) ≡ 0 = omega (arith, few) in
+    let there : most - length (filter is_error (ps ++ rest)) ≡ 0 = omega (arith, few, long) in
+    let shown = with_first most is_error ps in
+    let behind = filter is_consequence rest in
+    ap (λ n. with_first n is_consequence shown) here
+    ∙ sym (append-nil (filter is_error shown)) ∙ ap (λ l. filter is_error shown ++ l) (sym (none_of_both rest))
+    ∙ sym (filter-append is_error shown behind)
+    ∙ ap (filter is_error) (sym (enough_in ps most few rest))
+    ∙ ap (λ n. with_first n is_consequence (with_first most is_error (ps ++ rest))) (sym there)
+
+-- room for errors, when another fault was passed
+pub room_behind : (most : ℕ) (ps : List FaultPlace) (p : FaultPlace) (room left : ℕ) (b : Bool)
+    → b ≡ is_of_faulty p.code → room ≡ most - length (filter is_error ps) → left ≡ cond b room (room - 1)
+    → left ≡ most - length (filter is_error (ps ++ p ∷ []))
+room_behind most ps p room left b is room_is left_is =
+    let long = ap (λ l. length l) (filter-append is_error ps (p ∷ []))
+    ∙ length-append (filter is_error ps) (filter is_error (p ∷ [])) in
+    by b is left_is long
+  where
+    by : (b : Bool) → b ≡ is_of_faulty p.code → left ≡ cond b room (room - 1)
+        → length (filter is_error (ps ++ p ∷ [])) ≡ length (filter is_error ps) + length (filter is_error (p ∷ []))
+        → left ≡ most - length (filter is_error (ps ++ p ∷ []))
+    by true e l long =
+        let one = ap (λ c. length (cond (not c) (p ∷ []) [])) (sym e) in omega (arith, one, long, l, room_is)
+    by false e l long =
+        let one = ap (λ c. length (cond (not c) (p ∷ []) [])) (sym e) in omega (arith, one, long, l, room_is)
 
 -- ---- one fault after another
 

@@ -2,10 +2,10 @@
 use Rattle.std.proofs.Common.{◌≡◌, ℕ, ◌+◌, ◌<◌, Bool, true, false, cond, List, [], ◌∷◌, ◌++◌, drop}
 use Rattle.std.proofs.Common.{get_or, length, append_assoc, refl, sym, ap, ◌∙◌}
 use Rattle.std.proofs.lemmas.List.{drop_more}
-use Rattle.std.specs.Prelude.{not, ◌&&◌}
+use Rattle.std.specs.Prelude.{not, ◌&&◌, ◌||◌}
 use Rattle.std.specs.List.{filter, list_any}
 use Rattle.x_compile.specs.declared.fault.FaultPlace.{FaultPlace}
-use Rattle.x_directives.specs.Branches.{SayBranchesOf}
+use Rattle.x_directives.specs.Branches.{SayBranchesOf, in_later_branch}
 use Rattle.x_directives.specs.declared.branches.Turn.{Turn}
 use Rattle.x_told.specs.Telling.{is_of_branch, is_repeat}
 use Rattle.x_told.specs.Voices.{is_of_branch_by}
@@ -29,6 +29,28 @@ same_free shown turns say ps = ap (λ t. filter t ps) (λ i p. not (same_branch 
 pub any_of_branch : (shown : List ℕ) (turns : List Turn) → SayBranchesOf turns shown → (ps : List FaultPlace)
     → list_any (λ p. is_of_branch_by turns p.code p.start) ps ≡ list_any (is_of_branch shown) ps
 any_of_branch shown turns say ps = ap (λ t. list_any t ps) (λ i p. same_branch shown turns say p i)
+
+-- where no place is in a later branch, none is left out
+of_no_branch : (shown : List ℕ) → ((place : ℕ) → in_later_branch shown place ≡ false) → (p : FaultPlace)
+    → is_of_branch shown p ≡ false
+of_no_branch shown none p = ap (λ b. is_repeat p.code && b) (none p.start) ∙ by (is_repeat p.code)
+  where
+    by : (b : Bool) → (b && false) ≡ false
+    by true = refl
+    by false = refl
+
+pub none_of_branch : (shown : List ℕ) → ((place : ℕ) → in_later_branch shown place ≡ false)
+    → (ps : List FaultPlace) → list_any (is_of_branch shown) ps ≡ false
+none_of_branch shown none [] = refl
+none_of_branch shown none (p ∷ ps) =
+    ap (λ b. b || list_any (is_of_branch shown) ps) (of_no_branch shown none p) ∙ none_of_branch shown none ps
+
+pub all_are_free : (shown : List ℕ) → ((place : ℕ) → in_later_branch shown place ≡ false)
+    → (ps : List FaultPlace) → filter (is_free shown) ps ≡ ps
+all_are_free shown none [] = refl
+all_are_free shown none (p ∷ ps) =
+    ap (λ b. cond (not b) (p ∷ filter (is_free shown) ps) (filter (is_free shown) ps)) (of_no_branch shown none p)
+    ∙ ap (λ l. p ∷ l) (all_are_free shown none ps)
 
 -- one fault more of which it is asked whether it is told
 kept_more : (turns : List Turn) (told new : List FaultPlace) (found : List FaultPlace) (i : ℕ)

@@ -9,9 +9,9 @@ returns c =
     let told = c.in_ok-told.ensures in
     let most = c.args.most in
     let found = c.in_ok-list.list.items in
-    let long = c.len.ensures ∙ c.in_ok-told.told.ok.0 ∙ ap (λ l. length l) told.3 in
+    let long = told.3.1 in
     let left = c.saturating_sub-left.ensures in
-    let places = c.deref.ensures.value ∙ c.in_ok-places.ensures.chosen ∙ ap (chosen most) told.3 in (
+    let places = c.deref.ensures.value ∙ c.in_ok-places.ensures.chosen ∙ told.3.0 in (
       told.0,
       told.1,
       told.2,
