@@ -139,5 +139,5 @@ pub published_as : (d : OpenDocument) (client : Client) (on : Ground) (uri : Lis
 published_as d client on uri version text said is in_step says =
     subst (λ (x : Document). (t : List ℕ) → x.text ≡ Some t → Publishes x.client x.uri x.version x.on t said) is
     (λ t e. subst (λ s. Publishes d.client (string_bytes d.uri) d.version (ground_with d.files.items d.compiled.from_c d.blanks d.warns d.most) s said)
-        (ap (λ o. unwrap_or o []) (sym (ap (λ b. if b then Some d.shown else None) in_step) ∙ e)) says)
+    (ap (λ o. unwrap_or o []) (sym (ap (λ b. if b then Some d.shown else None) in_step) ∙ e)) says)
     text refl

@@ -107,12 +107,7 @@ impl Documents {
     }
 
     /// Carries changes of the document of a URI out.
-    pub(crate) fn change(
-        &mut self,
-        uri: &str,
-        version: Option<i64>,
-        changes: &Vec<Value>,
-    ) -> Reply
+    pub(crate) fn change(&mut self, uri: &str, version: Option<i64>, changes: &Vec<Value>) -> Reply
         ensures becomes { BecomesOf uri.now (documents_of self.old)
             (λ d d'. IsChangedIf d version (replacements_in (items_view changes.now.items))
             (said_of result) d') (said_of result) (documents_of self.new) }

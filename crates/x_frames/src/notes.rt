@@ -52,7 +52,9 @@ pub enum DocumentNote<'m> {
         changes: &'m Vec<Value>,
     },
     /// A document is closed.
-    Close { uri: &'m str },
+    Close {
+        uri: &'m str,
+    },
     /// It is not understood, of the document that it names, or of one that is not known.
     Wrong {
         kind: NoteKind,

@@ -50,11 +50,11 @@ pub record HasServed (on : Ground) (served : List Exchange) (input rest : List �
 
 -- messages at the front of an input are served, and so many bytes were written
 pub record HasStopped (on : Ground) (input rest : List ℕ) (before after : Stream) (count : ℕ) : Type 0
-    where
-  pub served : List Exchange
-  pub state : ServerState
-  pub has : HasServed on served input rest state before after
-  pub count_is : count ≡ counted (length (written_of served))
+  where
+    pub served : List Exchange
+    pub state : ServerState
+    pub has : HasServed on served input rest state before after
+    pub count_is : count ≡ counted (length (written_of served))
 
 -- Messages at the front of an input are served, and the sink failed within what is said to the last of them:
 -- it has the first bytes of what is written, so many.

@@ -105,9 +105,9 @@ pub data Makes (s : ServerState) (body : List ℕ) (said : Option (List ℕ)) (s
 
 -- what is said to a body, and what it makes of a server
 pub record IsServed (s : ServerState) (body : List ℕ) (said : Option (List ℕ)) (s' : ServerState) : Type 0
-    where
-  pub is_said : IsSaid s.life body said s'.life
-  pub makes : Makes s body said s'
+  where
+    pub is_said : IsSaid s.life body said s'.life
+    pub makes : Makes s body said s'
 
 -- the server of the program
 abbrev pub state_of : Server → ServerState

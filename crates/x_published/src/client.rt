@@ -73,5 +73,9 @@ fn related_in(capabilities: Option<&Value>) -> Option<bool>
     ensures { result ≡ related_in (option_map (λ c. view c.now) capabilities.entry) }
 {
     let documents = member(capabilities, "textDocument");
-    member(member(documents, "publishDiagnostics"), "relatedInformation")?.as_bool()
+    member(
+        member(documents, "publishDiagnostics"),
+        "relatedInformation",
+    )?
+    .as_bool()
 }

@@ -30,5 +30,5 @@ returns-clause-large c =
     let edit = c.edit_between-edit.result in
     let text = c.in_ok-apply.ensures.text ∙ ap (λ s. edited_by (change_of s edit)) (sym c.bytes.ensures) ∙ c.edit_between-edit.ensures.makes in
     λ e. ∥∥₁_map c.requires (λ over.
-        large_so old.files.items mid.files.items old.from_c mid.from_c c.args.bytes.now mid.session.text
-        (ap (λ f. f.items) c.apply.ensures.files) c.apply.ensures.from_c text (c.renew.ensures.large (c.apply.ensures.over over) e))
+    large_so old.files.items mid.files.items old.from_c mid.from_c c.args.bytes.now mid.session.text
+    (ap (λ f. f.items) c.apply.ensures.files) c.apply.ensures.from_c text (c.renew.ensures.large (c.apply.ensures.over over) e))
