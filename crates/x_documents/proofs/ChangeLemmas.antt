@@ -1,5 +1,5 @@
 -- Changes of a text, one after another.
-use Rattle.std.proofs.Common.{◌≡◌, ◌∙◌, ◌≤◌, ◌<◌, ℕ, true, false, List, [], ◌∷◌, ◌++◌, length, map, ap, sym, subst, arith, inl, inr, refl, Option, Some, None, Result, Ok, Err, take, drop, append-nil}
+use Rattle.std.proofs.Common.{◌≡◌, ◌∙◌, ℕ, true, List, [], ◌∷◌, ◌++◌, length, ap, sym, subst, arith, inl, inr, refl, Option, Some, None, Result, Ok, Err, drop, append-nil}
 use Rattle.std.specs.Prelude.{◌↔◌, OnOk, is_none}
 use Rattle.x_text.specs.Edits.{Change, FitsText, Judges, LiesWithin, Refuses, edited_by}
 use Rattle.x_text.specs.declared.text.fault.TextFault.{TextFault}

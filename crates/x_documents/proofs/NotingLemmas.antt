@@ -1,5 +1,5 @@
 -- What becomes of the documents.
-use Rattle.std.proofs.Common.{◌≡◌, ◌∙◌, ◌⊎◌, ℕ, ℤ, Bool, not, true, false, cond, List, [], ◌∷◌, map, ap, inl, inr, refl, sym, subst, Option, Some, None}
+use Rattle.std.proofs.Common.{◌≡◌, ◌∙◌, ◌⊎◌, ℕ, ℤ, Bool, not, true, false, List, [], ap, inl, inr, refl, sym, subst, Option, Some, None}
 use Rattle.std.specs.Prelude.{◌&&◌, MatchBool, MatchOption, if◌then◌else◌, is_some, string_bytes, unwrap_or}
 use Rattle.x_text.specs.declared.text.fault.TextFault.{TextFault}
 use Rattle.x_text.specs.declared.text.fault.TextFault.TheVariants.{NoMemory}

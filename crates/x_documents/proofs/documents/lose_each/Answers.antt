@@ -1,6 +1,6 @@
 use Rattle.std.proofs.Common.{◌≡◌, ◌∙◌, ◌+◌, ◌<◌, ap, arith, length, length-set, suc, sym}
 use Rattle.std.specs.Prelude.{◌||◌}
-use Rattle.x_documents.specs.Views.{view_document, views}
+use Rattle.x_documents.specs.Views.{views}
 use Rattle.x_documents.proofs.DocumentLemmas.{all_lost, any_before, any_of_all, any_then, lost_before, lost_then, step_seen, views_length}
 use Rattle.x_documents.proofs.documents.lose_each.Goals as goal
 

@@ -1,4 +1,4 @@
-use Rattle.std.proofs.Common.{◌≡◌, ◌∙◌, ap, false, map, None, refl, rules, Some, subst, sym, true, w64}
+use Rattle.std.proofs.Common.{◌≡◌, ◌∙◌, ap, map, None, refl, rules, Some, subst, sym, w64}
 use Rattle.std.proofs.lemmas.Int.{to_z-of_z}
 use Rattle.std.specs.Prelude.{MatchBool, string_bytes, unwrap_or}
 use Rattle.x_frames.specs.Params.{replacement_of}

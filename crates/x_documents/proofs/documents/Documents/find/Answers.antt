@@ -1,4 +1,4 @@
-use Rattle.std.proofs.Common.{◌≡◌, ◌∙◌, ◌+◌, suc, ap, arith, false, length, nltb→le, subst, sym, true}
+use Rattle.std.proofs.Common.{◌≡◌, ◌∙◌, ◌+◌, suc, ap, arith, false, length, subst, sym, true}
 use Rattle.std.specs.Prelude.{bytes_eq}
 use Rattle.x_documents.specs.DocumentNames.{name_of}
 use Rattle.x_documents.specs.Documents.{is_of}
