@@ -4,11 +4,11 @@ use Rattle.std.specs.List.{flat_map}
 use Rattle.x_compile.specs.Compile.{Item, faults_of}
 use Rattle.x_compile.specs.Generated.{text_of}
 use Rattle.x_session.specs.FaultLines.{fault_line}
-use Rattle.x_session.specs.Session.{Document}
 use Rattle.x_contents.specs.declared.wanted.Wanted.{Wanted}
 use Rattle.x_contents.specs.declared.wanted.Wanted.TheVariants.{Generated, Faults}
 
--- of a document whose text has these items: what is generated of it, or its faults, one a line
-abbrev pub told_text : Wanted → Document → List Item → List ℕ
-told_text (Generated which) document items = text_of which document.base items
-told_text Faults document items = flat_map fault_line (faults_of document.text items)
+-- Of a text with these items: what is generated of it, where generated texts use the name `base`; or its
+-- faults, one a line.
+abbrev pub told_text : Wanted → (base text : List ℕ) → List Item → List ℕ
+told_text (Generated which) base text items = text_of which base items
+told_text Faults base text items = flat_map fault_line (faults_of text items)

@@ -1,2 +1,5 @@
 pub mod DocumentTexts
+pub mod Folds
 pub mod Symbols
+pub mod TokenKinds
+pub mod Wanting

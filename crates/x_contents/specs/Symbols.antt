@@ -1,10 +1,21 @@
 -- How the parts of a document are told (LSP 3.17, `textDocument/documentSymbol`).
 use Rattle.std.specs.Prelude.{ℕ, List, codes}
 use Rattle.serde_json.specs.Data.{Data, number, string, object, member, no_members, unsigned}
+use Rattle.x_lex.specs.Places.{Lexeme}
+use Rattle.x_positions.specs.Positions.{position_of}
+use Rattle.x_positions.specs.declared.encoding.Encoding.{Encoding}
+use Rattle.x_positions.specs.declared.range.Range.{Range}
 use Rattle.x_lookups.specs.declared.parts.PartKind.{PartKind}
 use Rattle.x_lookups.specs.declared.parts.PartKind.TheVariants.{Constant, Enum, Enumerator}
 use Rattle.x_lookups.specs.declared.parts.PartKind.TheVariants.{Struct, Union, Typedef, Field}
 use Rattle.x_lookups.specs.declared.parts.PartKind.TheVariants.{Program, Version, Procedure}
+
+-- the range of a token in a text that is shown
+abbrev pub token_range : Encoding → List ℕ → Lexeme → Range
+token_range encoding shown token = record {
+  start = position_of encoding shown token.start;
+  end = position_of encoding shown token.end;
+}
 
 -- the `SymbolKind` of a part
 abbrev pub symbol_kind : PartKind → ℕ

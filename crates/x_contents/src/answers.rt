@@ -1,9 +1,15 @@
 //! What is answered to questions about a whole document.
 
-ghost use Rattle.std.specs.Prelude.{◌≡◌, false, true, IfErr, IfOk};
+ghost use Rattle.std.specs.Prelude.{◌≡◌, false, true, IfErr, IfOk, IfSome, option_map};
+ghost use Rattle.std.specs.Str.Lossy.{utf8_lossy};
+ghost use Rattle.serde_json.specs.Data.{string};
 ghost use Rattle.serde_json.specs.View.{view};
 ghost use Rattle.serde_json.specs.Written.{has_float};
-ghost use Rattle.x_frames.specs.Lives.{is_of_request};
+ghost use Rattle.x_session.specs.Session.{Compiles};
+ghost use Rattle.x_frames.specs.Lives.{is_of_question};
+ghost use Rattle.x_frames.specs.declared.method.DocumentQuestion.TheVariants.{Text};
+ghost use Rattle.x_contents.specs.DocumentTexts.{told_text};
+ghost use Rattle.x_contents.specs.Wanting.{wanted_in};
 
 use crate::folds::folds;
 use crate::generated::text;
@@ -15,7 +21,7 @@ use std::alloc::Global;
 use x_frames::{DocumentQuestion, ErrorCode};
 use x_positions::Encoding;
 use x_session::Session;
-use x_text::{NoMemory, Source};
+use x_text::Source;
 
 /// The result of a question about a whole document, whose text is shown, and compiled in the session.
 ///
@@ -31,27 +37,18 @@ pub fn answer_about_document(
     params: Option<&Value>,
 ) -> Result<Value, ErrorCode>
     ensures value { IfOk result (λ v. has_float (view v) ≡ false) }
-    ensures code { IfErr result (λ code. is_of_request code ≡ true) }
+    ensures code { IfErr result (λ code. is_of_question code ≡ true) }
+    ensures text { question ≡ Text → IfSome (wanted_in (option_map (λ p. view p.now) params.entry))
+        (λ wanted. IfOk result (λ v. Compiles session.now.known session.now.text (λ items. view v
+        ≡ string (utf8_lossy (told_text wanted session.now.base session.now.text items))))) }
 {
     match question {
-        DocumentQuestion::Symbols => found(symbols(alloc, encoding, shown, session)),
-        DocumentQuestion::Folds => found(folds(alloc, shown, session)),
-        DocumentQuestion::Tokens => found(token_kinds(alloc, encoding, session)),
+        DocumentQuestion::Symbols => Ok(symbols(alloc, encoding, shown, session)?),
+        DocumentQuestion::Folds => Ok(folds(alloc, shown, session)?),
+        DocumentQuestion::Tokens => Ok(token_kinds(alloc, encoding, shown, session)?),
         DocumentQuestion::Text => match which_in(params) {
-            Some(wanted) => found(text(alloc, session, wanted)),
+            Some(wanted) => Ok(text(alloc, session, wanted)?),
             None => Err(ErrorCode::InvalidParams),
         },
-    }
-}
-
-/// A result, or that memory ran out.
-fn found(value: Result<Value, NoMemory>) -> Result<Value, ErrorCode>
-    requires { IfOk value (λ v. has_float (view v) ≡ false) }
-    ensures value { IfOk result (λ v. has_float (view v) ≡ false) }
-    ensures code { IfErr result (λ code. is_of_request code ≡ true) }
-{
-    match value {
-        Ok(value) => Ok(value),
-        Err(NoMemory) => Err(ErrorCode::InternalError),
     }
 }

@@ -1,8 +1,10 @@
 //! Which lines of a document can be folded away.
 
-ghost use Rattle.std.specs.Prelude.{◌≡◌, false, IfOk};
+ghost use Rattle.std.specs.Prelude.{◌≡◌, ◌++◌, None, false, IfOk, OnOk};
 ghost use Rattle.serde_json.specs.View.{view};
 ghost use Rattle.serde_json.specs.Written.{has_float};
+ghost use Rattle.x_frames.specs.Plain.{listed};
+ghost use Rattle.x_contents.specs.Folds.{fold_data, folds_if, folds_of, lines_inside};
 
 use serde_json::{Value, json};
 use std::alloc::Global;
@@ -85,7 +87,11 @@ impl FoldReader<'_> {
     }
 
     /// No further line goes on with those that begin with `%`.
-    fn end_passed_on(&mut self) -> Result<(), NoMemory> {
+    fn end_passed_on(&mut self) -> Result<(), NoMemory>
+        ensures folds { OnOk result (listed self.new.folds
+            ≡ listed self.old.folds ++ folds_if self.old.passed_on) }
+        ensures passed_on { OnOk result (self.new.passed_on ≡ None) }
+    {
         if let Some(lines) = self.passed_on {
             self.add(lines, false)?;
         }
@@ -107,7 +113,11 @@ impl FoldReader<'_> {
     }
 
     /// Adds a fold of lines, if there is more than one.
-    fn add(&mut self, lines: Lines, comment: bool) -> Result<(), NoMemory> {
+    fn add(&mut self, lines: Lines, comment: bool) -> Result<(), NoMemory>
+        ensures folds { OnOk result (listed self.new.folds
+            ≡ listed self.old.folds ++ folds_of lines comment) }
+        ensures passed_on { self.new.passed_on ≡ self.old.passed_on }
+    {
         if lines.first < lines.last {
             let fold = fold(self.alloc, lines, comment)?;
             self.folds.push(fold)?;
@@ -117,17 +127,19 @@ impl FoldReader<'_> {
 }
 
 /// The lines to fold between braces: the line of the closing one stays, unless it is the next.
-fn inside(open: usize, close: usize) -> Lines {
-    let before = close.saturating_sub(1);
+fn inside(opening: usize, closing: usize) -> Lines
+    ensures { result ≡ lines_inside opening closing }
+{
+    let before = closing.saturating_sub(1);
     Lines {
-        first: open,
-        last: if before > open { before } else { close },
+        first: opening,
+        last: if before > opening { before } else { closing },
     }
 }
 
 /// A `FoldingRange`.
 fn fold(alloc: Global, lines: Lines, comment: bool) -> Result<Value, NoMemory>
-    ensures { IfOk result (λ v. has_float (view v) ≡ false) }
+    ensures { IfOk result (λ v. view v ≡ fold_data lines comment) }
 {
     let first = lines.first;
     let last = lines.last;

@@ -25,7 +25,7 @@ use x_text::{NoMemory, Pen, Sink};
 pub(crate) fn text(alloc: Global, session: &Session, wanted: Wanted) -> Result<Value, NoMemory>
     ensures plain { IfOk result (λ v. has_float (view v) ≡ false) }
     ensures told { IfOk result (λ v. Compiles session.now.known session.now.text
-        (λ items. view v ≡ string (utf8_lossy (told_text wanted session.now items)))) }
+        (λ items. view v ≡ string (utf8_lossy (told_text wanted session.now.base session.now.text items)))) }
 {
     let bytes = told_text(alloc, session, wanted)?;
     Ok(Value::String(String::from_utf8_lossy(alloc, &bytes)?))
@@ -34,7 +34,7 @@ pub(crate) fn text(alloc: Global, session: &Session, wanted: Wanted) -> Result<V
 /// What is told of a text.
 fn told_text(alloc: Global, session: &Session, wanted: Wanted) -> Result<Vec<u8>, NoMemory>
     ensures { IfOk result (λ told. Compiles session.now.known session.now.text
-        (λ items. told.items ≡ told_text wanted session.now items)) }
+        (λ items. told.items ≡ told_text wanted session.now.base session.now.text items)) }
 {
     match wanted {
         Wanted::Generated(which) => generated_text(alloc, session, which),

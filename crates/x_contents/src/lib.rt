@@ -10,3 +10,4 @@ mod token_kinds;
 mod wanted;
 
 pub use answers::answer_about_document;
+pub use wanted::Wanted;

@@ -1,10 +1,11 @@
 //! What a document defines, as an outline shows it.
 
-ghost use Rattle.std.specs.Prelude.{◌≡◌, false, IfOk, IfSome};
+ghost use Rattle.std.specs.Prelude.{◌≡◌, false, map, IfOk, IfSome, OnOk};
+ghost use Rattle.x_lex.specs.Places.{lexeme};
 ghost use Rattle.serde_json.specs.View.{view};
 ghost use Rattle.serde_json.specs.Written.{has_float};
 ghost use Rattle.x_positions.specs.PositionData.{range_data};
-ghost use Rattle.x_contents.specs.Symbols.{symbol_data, symbol_kind};
+ghost use Rattle.x_contents.specs.Symbols.{symbol_data, symbol_kind, token_range};
 
 use serde_json::{Value, json};
 use std::alloc::{AllocError, Global};
@@ -46,7 +47,11 @@ fn put_ranges(
     places: &mut Places,
     tokens: &[Token],
     ranges: &mut Vec<Range>,
-) -> Result<(), NoMemory> {
+) -> Result<(), NoMemory>
+    ensures ranges { OnOk result (ranges.new.items
+        ≡ map (token_range places.old.encoding places.old.text) (map lexeme tokens.now)) }
+    ensures same { places.new ≡ places.old }
+{
     ranges.clear();
     for token in tokens {
         ranges.push(Range {

@@ -1,8 +1,13 @@
 //! What the tokens of a document are.
 
-ghost use Rattle.std.specs.Prelude.{◌≡◌, false, IfOk};
+ghost use Rattle.std.specs.Prelude.{◌≡◌, ◌++◌, false, length, map, IfOk, OnOk};
 ghost use Rattle.serde_json.specs.View.{view};
 ghost use Rattle.serde_json.specs.Written.{has_float};
+ghost use Rattle.x_lex.specs.Places.{lexeme};
+ghost use Rattle.x_positions.specs.Positions.{position_of};
+ghost use Rattle.x_frames.specs.Plain.{listed};
+ghost use Rattle.x_contents.specs.TokenKinds.{kind_alone, kind_declared, kind_of_part, kind_used};
+ghost use Rattle.x_contents.specs.TokenKinds.{number_data, numbers_of};
 
 use serde_json::{Value, json};
 use std::alloc::Global;
@@ -12,9 +17,9 @@ use x_item::{Glossary, NameKind, is_significant, next_item};
 use x_lex::{Kind, Token};
 use x_lookups::{PartKind, parts_of};
 use x_names::{Names, is_beforehand};
-use x_positions::{Cursor, Encoding, Position};
+use x_positions::{Encoding, Places, Position};
 use x_session::Session;
-use x_text::NoMemory;
+use x_text::{NoMemory, Source};
 
 /// What a token is, in the order of `tokenTypes` in the server's capabilities.
 #[derive(Clone, Copy, Debug, PartialEq, Eq)]
@@ -34,7 +39,9 @@ enum TokenKind {
 
 impl TokenKind {
     /// Of a token that is what it is wherever it stands.
-    fn of_kind(kind: Kind) -> Option<TokenKind> {
+    fn of_kind(kind: Kind) -> Option<TokenKind>
+        ensures { result ≡ kind_alone kind }
+    {
         match kind {
             Kind::Comment | Kind::OpenComment => Some(TokenKind::Comment),
             Kind::Percent | Kind::Marker | Kind::Directive => Some(TokenKind::Macro),
@@ -45,7 +52,9 @@ impl TokenKind {
     }
 
     /// Of the name of a part of a definition.
-    fn of_part(kind: PartKind) -> TokenKind {
+    fn of_part(kind: PartKind) -> TokenKind
+        ensures { result ≡ kind_of_part kind }
+    {
         match kind {
             PartKind::Constant | PartKind::Enumerator => TokenKind::EnumMember,
             PartKind::Enum => TokenKind::Enum,
@@ -58,7 +67,9 @@ impl TokenKind {
     }
 
     /// Of a name that is declared as this.
-    fn of_declared(kind: NameKind) -> TokenKind {
+    fn of_declared(kind: NameKind) -> TokenKind
+        ensures { result ≡ kind_declared kind }
+    {
         match kind {
             NameKind::Constant => TokenKind::EnumMember,
             NameKind::Enum => TokenKind::Enum,
@@ -69,26 +80,41 @@ impl TokenKind {
     }
 
     /// Of a name that is used: by what declares it first.
-    fn of_used(names: &Names, name: &[u8]) -> Option<TokenKind> {
+    fn of_used(names: &Names, name: &[u8]) -> Option<TokenKind>
+        ensures { result ≡ kind_used names.now name.now }
+    {
         if is_beforehand(name) {
             return Some(TokenKind::EnumMember);
         }
-        let declarer = names.first(name)?;
-        Some(TokenKind::of_declared(declarer.kind))
+        match names.first(name) {
+            Some(declarer) => Some(TokenKind::of_declared(declarer.kind)),
+            None => None,
+        }
     }
 }
+
+/// The position of a text's first character.
+const FIRST: Position = Position {
+    line: 0,
+    character: 0,
+};
 
 /// What each token of a document is: `SemanticTokens`.
 pub(crate) fn token_kinds(
     alloc: Global,
     encoding: Encoding,
+    shown: &Source,
     session: &Session,
 ) -> Result<Value, NoMemory>
     ensures { IfOk result (λ v. has_float (view v) ≡ false) }
 {
     let definitions = definitions(alloc, session)?;
     let names = Names::keyed(alloc, session.hash_key(), &definitions)?;
-    let mut told = ToldTokens::new(alloc, encoding);
+    let mut told = ToldTokens {
+        data: PlainList::new(alloc),
+        places: Places::of(encoding, shown.bytes()),
+        before: FIRST,
+    };
     let mut walk = session.tokens();
     let mut tokens = Vec::new(alloc);
     let mut kinds = Vec::new(alloc);
@@ -111,7 +137,9 @@ pub(crate) fn token_kinds(
 }
 
 /// Tells what tokens are wherever they stand.
-fn put_kinds(tokens: &[Token], kinds: &mut Vec<Option<TokenKind>>) -> Result<(), NoMemory> {
+fn put_kinds(tokens: &[Token], kinds: &mut Vec<Option<TokenKind>>) -> Result<(), NoMemory>
+    ensures { OnOk result (kinds.new.items ≡ map (λ t. kind_alone t.kind) (map lexeme tokens.now)) }
+{
     kinds.clear();
     for token in tokens {
         kinds.push(TokenKind::of_kind(token.kind))?;
@@ -126,7 +154,9 @@ fn put_uses(
     glossary: &Glossary,
     tokens: &[Token],
     kinds: &mut Vec<Option<TokenKind>>,
-) -> Result<(), NoMemory> {
+) -> Result<(), NoMemory>
+    ensures { length kinds.new.items ≡ length kinds.old.items }
+{
     let mut words = Vec::new(alloc);
     for (index, token) in tokens.iter().enumerate() {
         if is_significant(token.kind) {
@@ -146,7 +176,9 @@ fn put_parts(
     alloc: Global,
     tokens: &[Token],
     kinds: &mut Vec<Option<TokenKind>>,
-) -> Result<(), NoMemory> {
+) -> Result<(), NoMemory>
+    ensures { length kinds.new.items ≡ length kinds.old.items }
+{
     for part in &parts_of(alloc, tokens)? {
         put_kind(kinds, part.name, Some(TokenKind::of_part(part.kind)));
     }
@@ -154,7 +186,9 @@ fn put_parts(
 }
 
 /// Tells what names mean, in an item that has no definition.
-fn put_names(names: &Names, tokens: &[Token], kinds: &mut Vec<Option<TokenKind>>) {
+fn put_names(names: &Names, tokens: &[Token], kinds: &mut Vec<Option<TokenKind>>)
+    ensures { length kinds.new.items ≡ length kinds.old.items }
+{
     for (index, token) in tokens.iter().enumerate() {
         if token.kind == Kind::Name {
             put_kind(kinds, index, TokenKind::of_used(names, token.text));
@@ -162,7 +196,9 @@ fn put_names(names: &Names, tokens: &[Token], kinds: &mut Vec<Option<TokenKind>>
     }
 }
 
-fn put_kind(kinds: &mut Vec<Option<TokenKind>>, index: usize, kind: Option<TokenKind>) {
+fn put_kind(kinds: &mut Vec<Option<TokenKind>>, index: usize, kind: Option<TokenKind>)
+    ensures { length kinds.new.items ≡ length kinds.old.items }
+{
     if index < kinds.len() {
         kinds[index] = kind;
     }
@@ -171,57 +207,48 @@ fn put_kind(kinds: &mut Vec<Option<TokenKind>>, index: usize, kind: Option<Token
 /// The numbers that tell of tokens: of each the lines and the characters from the one before, its length, its
 /// type, and that it has no modifier.
 #[derive(Drop)]
-struct ToldTokens {
+struct ToldTokens<'s> {
     data: PlainList,
-    cursor: Cursor,
+    places: Places<'s>,
     /// The start of the token that was told last.
     before: Position,
 }
 
-impl ToldTokens {
-    fn new(alloc: Global, encoding: Encoding) -> ToldTokens {
-        ToldTokens {
-            data: PlainList::new(alloc),
-            cursor: Cursor::new(encoding),
-            before: Position {
-                line: 0,
-                character: 0,
-            },
-        }
-    }
-
+impl ToldTokens<'_> {
     /// Adds tokens that stand next.
     fn add_all(&mut self, tokens: &[Token], kinds: &[Option<TokenKind>]) -> Result<(), NoMemory> {
         for (token, kind) in tokens.iter().zip(kinds) {
-            match kind {
-                Some(kind) => self.add(token.text, *kind)?,
-                None => {
-                    self.cursor.pass_token(token.text);
-                }
+            if let Some(kind) = kind {
+                self.add(token, *kind)?;
             }
         }
         Ok(())
     }
 
     /// Adds a token that stands next, line by line.
-    fn add(&mut self, token: &[u8], kind: TokenKind) -> Result<(), NoMemory> {
-        let mut start = self.cursor.before(token);
-        for byte in token {
-            let end = self.cursor.behind();
-            self.cursor.pass(*byte);
-            let line = self.cursor.behind().line;
-            if line != start.line {
-                self.add_line(start, end.character, kind)?;
-                start = Position { line, character: 0 };
+    fn add(&mut self, token: &Token, kind: TokenKind) -> Result<(), NoMemory> {
+        let mut start = token.start;
+        for (index, byte) in token.text.iter().enumerate() {
+            let is_pair = token.text.get(index.saturating_add(1)) == Some(&b'\n');
+            if *byte == b'\n' || (*byte == b'\r' && !is_pair) {
+                let end = token.start.saturating_add(index);
+                self.add_part(start, end, kind)?;
+                start = end.saturating_add(1);
             }
         }
-        let end = self.cursor.behind();
-        self.add_line(start, end.character, kind)
+        self.add_part(start, token.end, kind)
     }
 
-    /// Adds what stands of a token in one line.
-    fn add_line(&mut self, start: Position, end: usize, kind: TokenKind) -> Result<(), NoMemory> {
-        let length = end.saturating_sub(start.character);
+    /// Adds what stands of a token in one line, from a place to another; nothing where that is nothing.
+    fn add_part(&mut self, start: usize, end: usize, kind: TokenKind) -> Result<(), NoMemory>
+        ensures { OnOk result (listed self.new.data ≡ listed self.old.data
+            ++ map number_data (numbers_of self.old.before
+            (position_of self.old.places.encoding self.old.places.text start)
+            (position_of self.old.places.encoding self.old.places.text end) kind)) }
+    {
+        let start = self.places.position(start);
+        let end = self.places.position(end);
+        let length = end.character.saturating_sub(start.character);
         if length == 0 {
             return Ok(());
         }

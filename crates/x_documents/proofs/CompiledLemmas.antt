@@ -1,4 +1,8 @@
 -- What is compiled of the text that a client has.
+use mathlib.Core.HLevel.{hedberg}
+use mathlib.Core.List.{is_set}
+use mathlib.Core.Logic.{∥∥₁_elim}
+use native.Mathlib.Decide.{ℕ_discrete}
 use Rattle.std.proofs.Common.{◌≡◌, ◌<◌, ◌⊎◌, ℕ, Bool, List, ◌++◌, length, refl, subst, sym, ◌∙◌}
 use Rattle.std.specs.Prelude.{Result, Ok, Err, IfErr, IfOk, IsErrOf, OnErr, OnOk}
 use Rattle.std.proofs.Math.Logic.{∥∥₁_map}
@@ -78,3 +82,7 @@ large_so files files' from from' text text' f c t large =
     subst (λ s. (most_text < length s) ⊎ IsCrowded files from s) t
     (subst (λ d. (most_text < length text') ⊎ IsCrowded files d text') c
     (subst (λ g. (most_text < length text') ⊎ IsCrowded g from' text') f large))
+
+-- texts are the same where that follows of what is merely there
+pub text_same : {A : Type 0} (a b : List ℕ) → ∥ A ∥₁ → (A → a ≡ b) → a ≡ b
+text_same a b h f = ∥∥₁_elim h (is_set (hedberg ℕ_discrete) a b) f

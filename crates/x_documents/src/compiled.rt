@@ -55,6 +55,7 @@ pub(crate) fn follow_text(
     ensures over { ∥ IsOver text.new ∥₁ }
     ensures from_c { text.new.from_c ≡ text.old.from_c }
     ensures compiled { OnOk result (IsCompiled files.now blanks shown.now text.new) }
+    ensures base { text.new.session.base ≡ text.old.session.base }
     ensures fault { IfErr result
         (IsNotCompiled (ground_with files.now text.old.from_c blanks false 0) shown.now) }
 {
@@ -119,6 +120,7 @@ fn follow(text: &mut FollowedText, bytes: &[u8]) -> Result<(), EditFault>
     ensures files { text.new.files ≡ text.old.files }
     ensures from_c { text.new.from_c ≡ text.old.from_c }
     ensures text { OnOk result (text.new.session.text ≡ bytes.now) }
+    ensures base { text.new.session.base ≡ text.old.session.base }
     ensures before { OnOk result ∥ IsBefore text.new.files.items text.new.from_c text.new.session.text
         text.new.session.known ∥₁ }
     ensures large { IsErrOf result EditFault.TooLarge → ∥ (most_text < length bytes.now)

@@ -1,10 +1,11 @@
 //! A document that a client has open.
 
 ghost use Rattle.std.specs.Prelude.{◌≡◌, ◌≤◌, ◌⊎◌, ◌&&◌, IfErr, IfOk, OnOk, false, length, map, not};
-ghost use Rattle.std.specs.Prelude.{string_bytes, true};
+ghost use Rattle.std.specs.Prelude.{option_map, string_bytes, true};
+ghost use Rattle.serde_json.specs.View.{view};
 ghost use Rattle.x_prelude.specs.Followed.{IsOver};
 ghost use Rattle.x_frames.specs.Answers.{IsToNotification};
-ghost use Rattle.x_frames.specs.Params.{replacement_of};
+ghost use Rattle.x_frames.specs.Params.{position_asked, replacement_of};
 ghost use Rattle.x_documents.specs.Changes.{changed_by_all};
 ghost use Rattle.x_documents.specs.Compiled.{IsCompiled};
 ghost use Rattle.x_args.specs.BaseNames.{base_of};
@@ -69,6 +70,7 @@ pub struct OpenDocument {
     ghost marked: { AreWaymarks shown marks },
     ghost counted: { marks.encoding ≡ client.encoding },
     ghost named: { name.items ≡ name_of (string_bytes uri) },
+    ghost based: { compiled.session.base ≡ base_of (name_of (string_bytes uri)) },
 }
 
 impl OpenDocument {
@@ -171,6 +173,7 @@ impl OpenDocument {
             ≡ changed_by_all self.old.client.encoding self.old.shown (map replacement_of changes.now)) }
         ensures fit { OnOk result
             (Fit self.old.client.encoding self.old.shown (map replacement_of changes.now)) }
+        ensures base { self.new.compiled.session.base ≡ self.old.compiled.session.base }
         ensures followed { OnOk result
             (IsCompiled self.new.files.items self.new.blanks self.new.shown self.new.compiled) }
         ensures fault { IfErr result (λ fault.
@@ -286,7 +289,10 @@ impl OpenDocument {
     }
 
     /// The place that is asked about, if one is named.
-    pub fn place_asked(&self, params: Option<&Value>) -> Option<usize> {
+    pub fn place_asked(&self, params: Option<&Value>) -> Option<usize>
+        ensures { result ≡ option_map (offset_of self.now.client.encoding self.now.shown)
+            (position_asked (option_map (λ p. view p.now) params.entry)) }
+    {
         Some(self.place(position_asked(params)?))
     }
 

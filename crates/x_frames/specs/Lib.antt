@@ -6,3 +6,5 @@ pub mod Lives
 pub mod Messages
 pub mod Notes
 pub mod Params
+pub mod Plain
+pub mod Told

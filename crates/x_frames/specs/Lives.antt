@@ -105,3 +105,8 @@ is_of_request (NameUnparsed line) = true
 is_of_request NameLifted = true
 is_of_request ContentModified = true
 is_of_request NotInitialized = false
+
+-- an error of a question about a document that is in step
+abbrev pub is_of_question : ErrorCode → Bool
+is_of_question ContentModified = false
+is_of_question code = is_of_request code

@@ -51,6 +51,10 @@ position_with None character = None
 abbrev pub position_in : Data → Option Position
 position_in value = position_with (natural_in (codes "line") value) (natural_in (codes "character") value)
 
+-- the position that a question is about
+abbrev pub position_asked : Option Data → Option Position
+position_asked params = option_and_then position_in (member_of (codes "position") params)
+
 abbrev pub range_with : Option Position → Option Position → Option Range
 range_with (Some start) (Some end) = Some (record { start = start; end = end })
 range_with (Some start) None = None

@@ -8,6 +8,7 @@ ghost use Rattle.x_frames.specs.Answers.{refusal_data, shown_data};
 
 use serde_json::{Value, json};
 use std::alloc::{AllocError, Global};
+use x_text::NoMemory;
 
 /// Why a request is refused.
 #[derive(Clone, Copy, Debug, PartialEq, Eq)]
@@ -33,6 +34,17 @@ pub enum ErrorCode {
     ContentModified,
     /// No request came before that initializes the server.
     NotInitialized,
+}
+
+impl From<NoMemory> for ErrorCode {
+    ghost use Rattle.std.specs.Prelude.{◌≡◌};
+    ghost use Rattle.x_frames.specs.declared.answers.ErrorCode.TheVariants.{InternalError};
+
+    ghost from_gives = { λ _ code. code ≡ InternalError };
+
+    fn from(_error: NoMemory) -> Self {
+        ErrorCode::InternalError
+    }
 }
 
 impl ErrorCode {

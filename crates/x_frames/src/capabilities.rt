@@ -3,6 +3,7 @@
 ghost use Rattle.std.specs.Prelude.{◌≡◌, false, IfOk};
 ghost use Rattle.serde_json.specs.View.{view};
 ghost use Rattle.serde_json.specs.Written.{has_float};
+ghost use Rattle.x_frames.specs.Told.{encoding_name};
 
 use crate::plain_list::PlainList;
 use crate::plain_object::PlainObject;
@@ -80,7 +81,9 @@ fn list(alloc: Global, encoding: Encoding) -> Result<Value, NoMemory>
 }
 
 /// What an encoding is called.
-fn name_of(encoding: Encoding) -> &'static str {
+fn name_of(encoding: Encoding) -> &'static str
+    ensures { result.now ≡ encoding_name encoding }
+{
     match encoding {
         Encoding::Utf8 => "utf-8",
         Encoding::Utf16 => "utf-16",

@@ -1,9 +1,9 @@
 //! What the parameters of messages about a document say.
 
-ghost use Rattle.std.specs.Prelude.{◌≡◌, IfOk, map, codes, option_and_then, option_map};
+ghost use Rattle.std.specs.Prelude.{◌≡◌, IfOk, map, option_map};
 ghost use Rattle.serde_json.specs.View.{items_view, view};
 ghost use Rattle.x_frames.specs.Params.{changed_version_in, changes_in, document_in, member_of};
-ghost use Rattle.x_frames.specs.Params.{position_in, replacement_of, replacements_in, text_in, uri_in};
+ghost use Rattle.x_frames.specs.Params.{position_asked, replacement_of, replacements_in, text_in, uri_in};
 ghost use Rattle.x_frames.specs.Params.{version_in, version_or_null};
 
 use crate::changes::{TextChange, position_in, text_change};
@@ -96,8 +96,7 @@ pub fn text_changes(
 
 /// The position that is asked about.
 pub fn position_asked(params: Option<&Value>) -> Option<Position>
-    ensures { result ≡ option_and_then position_in
-        (member_of (codes "position") (option_map (λ p. view p.now) params.entry)) }
+    ensures { result ≡ position_asked (option_map (λ p. view p.now) params.entry) }
 {
     position_in(member(params, "position")?)
 }

@@ -1,8 +1,8 @@
 //! Lists of JSON values.
 
 ghost use Rattle.std.specs.Prelude.{◌≡◌, false};
-ghost use Rattle.serde_json.specs.View.{items_view, view};
-ghost use Rattle.serde_json.specs.Written.{has_float, items_have_float};
+ghost use Rattle.serde_json.specs.View.{items_view};
+ghost use Rattle.serde_json.specs.Written.{items_have_float};
 
 use serde_json::{Value, push};
 use std::alloc::Global;
@@ -16,8 +16,16 @@ pub struct PlainList {
 }
 
 impl PlainList {
+    ghost use Rattle.std.specs.Prelude.{◌≡◌, ◌++◌, [], ◌∷◌, false, OnOk};
+    ghost use Rattle.serde_json.specs.Data.{array, number as number_data, unsigned};
+    ghost use Rattle.serde_json.specs.View.{items_of, view};
+    ghost use Rattle.serde_json.specs.Written.{has_float};
+    ghost use Rattle.x_frames.specs.Plain.{listed};
+
     /// No values.
-    pub fn new(alloc: Global) -> PlainList {
+    pub fn new(alloc: Global) -> PlainList
+        ensures { listed result ≡ [] }
+    {
         PlainList {
             values: Vec::new(alloc),
         }
@@ -26,19 +34,23 @@ impl PlainList {
     /// Adds a value.
     pub fn push(&mut self, value: Value) -> Result<(), NoMemory>
         requires { has_float (view value) ≡ false }
+        ensures { OnOk result (listed self.new ≡ listed self.old ++ view value ∷ []) }
     {
         push(&mut self.values, value)?;
         Ok(())
     }
 
     /// Adds a number.
-    pub fn push_number(&mut self, number: usize) -> Result<(), NoMemory> {
+    pub fn push_number(&mut self, number: usize) -> Result<(), NoMemory>
+        ensures { OnOk result (listed self.new ≡ listed self.old ++ number_data (unsigned number) ∷ []) }
+    {
         self.push(Value::from(number))
     }
 
     /// The list as a value.
     pub fn into_value(self) -> Value
-        ensures { has_float (view result) ≡ false }
+        ensures plain { has_float (view result) ≡ false }
+        ensures list { view result ≡ array (items_of (listed self)) }
     {
         Value::Array(self.values)
     }

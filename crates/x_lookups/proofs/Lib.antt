@@ -1,4 +1,5 @@
 mod DeclarerLemmas
 mod LookupLemmas
 mod NamePlaceLemmas
+mod SizeLemmas
 mod UnparsedLemmas

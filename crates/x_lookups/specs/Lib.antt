@@ -1,3 +1,6 @@
+pub mod Expecting
 pub mod NamePlaces
+pub mod Parts
+pub mod Sizes
 pub mod Sought
 pub mod Unparsed

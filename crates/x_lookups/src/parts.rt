@@ -1,7 +1,10 @@
 //! The parts of a definition that have a name.
 
+ghost use Rattle.std.specs.Prelude.{◌≡◌, ◌++◌, [], ◌∷◌, OnOk, length};
+ghost use Rattle.x_lookups.specs.Parts.{begun, body_of, defined_by, inside, kind_within, nothing, part_of};
+ghost use Rattle.x_lookups.specs.Parts.{settled, with_mark, with_name};
+
 use std::alloc::Global;
-use std::mem;
 use x_item::is_significant;
 use x_lex::{Kind, Mark, Token};
 use x_text::NoMemory;
@@ -33,7 +36,9 @@ pub enum PartKind {
 
 impl PartKind {
     /// What the definition is that begins with a keyword.
-    fn of_definition(mark: Mark) -> Option<PartKind> {
+    fn of_definition(mark: Mark) -> Option<PartKind>
+        ensures { result ≡ defined_by mark }
+    {
         match mark {
             Mark::Const => Some(PartKind::Constant),
             Mark::Enum => Some(PartKind::Enum),
@@ -46,7 +51,9 @@ impl PartKind {
     }
 
     /// What stands in the body of a keyword.
-    fn inside(mark: Mark) -> Option<PartKind> {
+    fn inside(mark: Mark) -> Option<PartKind>
+        ensures { result ≡ inside mark }
+    {
         match mark {
             Mark::Enum => Some(PartKind::Enumerator),
             Mark::Struct | Mark::Union => Some(PartKind::Field),
@@ -127,17 +134,23 @@ const NOTHING: Begun = Begun {
 };
 
 impl Begun {
-    fn begin(&mut self, index: usize) {
+    fn begin(&mut self, index: usize)
+        ensures { self.new ≡ begun self.old index }
+    {
         if self.first.is_none() {
             self.first = Some(index);
         }
     }
 
-    fn settle(&mut self) {
+    fn settle(&mut self)
+        ensures { self.new ≡ settled self.old }
+    {
         self.settled = self.name.is_some();
     }
 
-    fn read_name(&mut self, index: usize) {
+    fn read_name(&mut self, index: usize)
+        ensures { self.new ≡ with_name self.old index }
+    {
         self.begin(index);
         if !self.settled {
             self.name = Some(index);
@@ -145,7 +158,9 @@ impl Begun {
     }
 
     /// Reads a word that neither opens nor ends anything.
-    fn read_mark(&mut self, index: usize, mark: Mark) {
+    fn read_mark(&mut self, index: usize, mark: Mark)
+        ensures { self.new ≡ with_mark self.old index mark }
+    {
         self.begin(index);
         match mark {
             Mark::OpenBracket | Mark::Less | Mark::Equals | Mark::Switch => self.settle(),
@@ -173,7 +188,9 @@ struct Body {
 }
 
 impl Body {
-    fn of(kind: Option<PartKind>, within: Option<Mark>) -> Body {
+    fn of(kind: Option<PartKind>, within: Option<Mark>) -> Body
+        ensures { result ≡ body_of kind within }
+    {
         Body {
             kind,
             within,
@@ -230,7 +247,12 @@ impl PartReader {
     }
 
     /// Begins the body of a keyword, or of arguments.
-    fn open(&mut self, within: Option<Mark>) -> Result<(), NoMemory> {
+    fn open(&mut self, within: Option<Mark>) -> Result<(), NoMemory>
+        ensures outer { OnOk result (self.new.outer.items ≡ self.old.outer.items
+            ++ record self.old.body { begun = settled self.old.body.begun } ∷ []) }
+        ensures body { OnOk result (self.new.body ≡ body_of (kind_within self.old.body.kind within) within) }
+        ensures parts { self.new.parts ≡ self.old.parts }
+    {
         self.body.begun.settle();
         let kind = match (self.body.kind, within) {
             (Some(_), Some(mark)) => PartKind::inside(mark),
@@ -242,7 +264,12 @@ impl PartReader {
     }
 
     /// Ends a part at its last word.
-    fn finish(&mut self, last: usize) -> Result<(), NoMemory> {
+    fn finish(&mut self, last: usize) -> Result<(), NoMemory>
+        ensures parts { OnOk result (self.new.parts.items ≡ self.old.parts.items
+            ++ part_of self.old.body (length self.old.outer.items) last) }
+        ensures body { self.new.body ≡ record self.old.body { begun = nothing } }
+        ensures outer { self.new.outer ≡ self.old.outer }
+    {
         let begun = self.body.begun;
         self.body.begun = NOTHING;
         if let Some(kind) = self.body.kind

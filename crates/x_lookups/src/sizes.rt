@@ -1,6 +1,10 @@
 //! How many bytes the values of types take.
 
+ghost use Rattle.std.specs.Prelude.{◌≡◌, IfOk, slice_get, string_bytes};
 ghost use Rattle.x_schema.specs.Schema.{IsTypeId};
+ghost use Rattle.x_lookups.specs.Sizes.{always, arm_size, both, choice_size, counted, either, form_size};
+ghost use Rattle.x_lookups.specs.Sizes.{padded, size_at, size_of, size_text, times, with_arm, with_fields};
+ghost use Rattle.x_lookups.specs.Sizes.{or_nothing, with_case};
 
 use std::alloc::{AllocError, Global};
 use x_schema::{Arm, Arms, Field, Form, FormIndex, Schema, TypeId};
@@ -28,7 +32,9 @@ const WORD: Size = Size {
 
 impl Size {
     /// Always so many.
-    fn always(bytes: u64) -> Size {
+    fn always(bytes: u64) -> Size
+        ensures { result ≡ always bytes }
+    {
         Size {
             least: bytes,
             fixed: true,
@@ -36,7 +42,9 @@ impl Size {
     }
 
     /// A count of at most so many values, and these.
-    fn counted(most: u32) -> Size {
+    fn counted(most: u32) -> Size
+        ensures { result ≡ counted most }
+    {
         Size {
             least: 4,
             fixed: most == 0,
@@ -44,7 +52,9 @@ impl Size {
     }
 
     /// Both, one behind the other.
-    fn and(self, other: Size) -> Size {
+    fn and(self, other: Size) -> Size
+        ensures { result ≡ both self other }
+    {
         Size {
             least: self.least.saturating_add(other.least),
             fixed: self.fixed && other.fixed,
@@ -52,7 +62,9 @@ impl Size {
     }
 
     /// One of them.
-    fn or(self, other: Size) -> Size {
+    fn or(self, other: Size) -> Size
+        ensures { result ≡ either self other }
+    {
         Size {
             least: self.least.min(other.least),
             fixed: self.fixed && other.fixed && self.least == other.least,
@@ -60,7 +72,9 @@ impl Size {
     }
 
     /// So many of it.
-    fn times(self, count: u32) -> Size {
+    fn times(self, count: u32) -> Size
+        ensures { result ≡ times self count }
+    {
         Size {
             least: self.least.saturating_mul(u64::from(count)),
             fixed: self.fixed || count == 0,
@@ -74,6 +88,7 @@ impl Size {
     /// [`AllocError`] where a list could not grow.
     pub fn of_type(alloc: Global, schema: &Schema, id: TypeId) -> Result<Size, AllocError>
         requires { IsTypeId schema.now id }
+        ensures { IfOk result (λ size. size ≡ size_of schema.now id.form) }
     {
         let mut sizes = Vec::new(alloc);
         let whole = schema.form(id);
@@ -84,15 +99,15 @@ impl Size {
     }
 
     /// Of the values of a form, by those of the forms before it.
-    fn of_form(sizes: &[Size], form: &Form) -> Size {
+    fn of_form(sizes: &[Size], form: &Form) -> Size
+        ensures { result ≡ form_size sizes.now form.now }
+    {
         match form {
             Form::Void => NOTHING,
             Form::Int | Form::UnsignedInt | Form::Float | Form::Bool | Form::Enum(_) => WORD,
             Form::Hyper | Form::UnsignedHyper | Form::Double => Size::always(8),
             Form::Quadruple => Size::always(16),
-            Form::FixedOpaque(count) => Size::always(
-                u64::from(*count).div_ceil(4).saturating_mul(4),
-            ),
+            Form::FixedOpaque(count) => Size::always(padded(*count)),
             Form::Opaque(most) | Form::String(most) | Form::Array(_, most) => Size::counted(*most),
             Form::FixedArray(element, count) => size_at(sizes, *element).times(*count),
             Form::Optional(_) => Size {
@@ -107,7 +122,9 @@ impl Size {
     }
 
     /// Of the fields of a struct.
-    fn of_fields(sizes: &[Size], fields: &[Field]) -> Size {
+    fn of_fields(sizes: &[Size], fields: &[Field]) -> Size
+        ensures { result ≡ with_fields sizes.now (always 0) fields.now }
+    {
         let mut size = NOTHING;
         for field in fields {
             size = size.and(size_at(sizes, field.form));
@@ -116,15 +133,17 @@ impl Size {
     }
 
     /// Of what stands behind the discriminant of a union.
-    fn of_arms(sizes: &[Size], arms: &Arms) -> Size {
-        let mut size = arms.default().map(|arm| of_arm(sizes, arm));
+    fn of_arms(sizes: &[Size], arms: &Arms) -> Size
+        ensures { result ≡ choice_size sizes.now arms.now }
+    {
+        let mut size = match arms.default() {
+            Some(arm) => Some(of_arm(sizes, arm)),
+            None => None,
+        };
         for index in 0..arms.case_count() {
-            if let Some((_, arm)) = arms.case(index) {
-                let next = of_arm(sizes, arm);
-                size = Some(size.map_or(next, |size| size.or(next)));
-            }
+            size = with_case(sizes, size, arms, index);
         }
-        size.unwrap_or(NOTHING)
+        or_nothing(size)
     }
 
     /// In words.
@@ -132,7 +151,9 @@ impl Size {
     /// # Errors
     ///
     /// [`AllocError`] where the text could not grow.
-    pub fn told(self, alloc: Global) -> Result<String, AllocError> {
+    pub fn told(self, alloc: Global) -> Result<String, AllocError>
+        ensures { IfOk result (λ text. string_bytes text ≡ size_text self) }
+    {
         let bytes = self.least;
         if self.fixed {
             format!(in alloc; "{bytes} bytes")
@@ -142,7 +163,37 @@ impl Size {
     }
 }
 
-fn of_arm(sizes: &[Size], arm: Arm) -> Size {
+/// So many bytes, and zeros up to a multiple of four (section 4.9).
+fn padded(bytes: u32) -> u64
+    ensures { result ≡ padded bytes }
+{
+    let bytes = u64::from(bytes);
+    bytes + (4 - bytes % 4) % 4
+}
+
+/// What is found of a union so far, or the case at a place more.
+fn with_case(sizes: &[Size], size: Option<Size>, arms: &Arms, index: usize) -> Option<Size>
+    ensures { result ≡ with_case sizes.now size (slice_get arms.now.cases index) }
+{
+    match arms.case(index) {
+        Some((_, arm)) => Some(with_arm(sizes, size, arm)),
+        None => size,
+    }
+}
+
+/// What is found of a union so far, or one arm more.
+fn with_arm(sizes: &[Size], size: Option<Size>, arm: Arm) -> Size
+    ensures { result ≡ with_arm sizes.now size arm }
+{
+    match size {
+        Some(size) => size.or(of_arm(sizes, arm)),
+        None => of_arm(sizes, arm),
+    }
+}
+
+fn of_arm(sizes: &[Size], arm: Arm) -> Size
+    ensures { result ≡ arm_size sizes.now arm }
+{
     match arm {
         Arm::Void => NOTHING,
         Arm::Of(field) => size_at(sizes, field.form),
@@ -150,6 +201,20 @@ fn of_arm(sizes: &[Size], arm: Arm) -> Size {
 }
 
 /// The size of a form.
-fn size_at(sizes: &[Size], form: FormIndex) -> Size {
-    sizes.get(form).copied().unwrap_or(NOTHING)
+fn size_at(sizes: &[Size], form: FormIndex) -> Size
+    ensures { result ≡ size_at sizes.now form }
+{
+    match sizes.get(form) {
+        Some(size) => *size,
+        None => NOTHING,
+    }
+}
+
+fn or_nothing(size: Option<Size>) -> Size
+    ensures { result ≡ or_nothing size }
+{
+    match size {
+        Some(size) => size,
+        None => NOTHING,
+    }
 }

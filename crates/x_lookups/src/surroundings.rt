@@ -1,5 +1,12 @@
 //! What is expected at a place of a text, by the words before it.
 
+ghost use Rattle.std.specs.Prelude.{◌≡◌, []};
+ghost use Rattle.x_lookups.specs.declared.surroundings.Last.TheVariants.{Start};
+ghost use Rattle.x_lex.specs.Marks.{mark_of};
+ghost use Rattle.x_lex.specs.Places.{lexeme};
+ghost use Rattle.x_lookups.specs.Expecting.{ends, expected_behind, expected_in, inmost, is_typed, is_within};
+ghost use Rattle.x_lookups.specs.Expecting.{keywords, last_by, takes, takes_names};
+
 use std::alloc::Global;
 use x_item::{NameKind, is_significant};
 use x_lex::{Kind, Mark, Token};
@@ -61,7 +68,9 @@ const TYPES: [Mark; 14] = [
 
 impl Expected {
     /// The keywords that can stand there.
-    pub fn keywords(self) -> &'static [Mark] {
+    pub fn keywords(self) -> &'static [Mark]
+        ensures { result.now ≡ keywords self }
+    {
         match self {
             Expected::Definition => &DEFINITIONS,
             Expected::Type => &TYPES,
@@ -73,7 +82,9 @@ impl Expected {
     }
 
     /// Whether a name can stand there.
-    pub fn takes_names(self) -> bool {
+    pub fn takes_names(self) -> bool
+        ensures { result ≡ takes_names self }
+    {
         match self {
             Expected::Constant | Expected::Type => true,
             Expected::EnumName | Expected::StructName | Expected::UnionName => true,
@@ -83,13 +94,15 @@ impl Expected {
     }
 
     /// Whether a name can stand there that is declared as this.
-    pub fn takes(self, kind: NameKind) -> bool {
+    pub fn takes(self, kind: NameKind) -> bool
+        ensures { result ≡ takes self kind }
+    {
         match self {
-            Expected::Constant => kind == NameKind::Constant,
-            Expected::EnumName => kind == NameKind::Enum,
-            Expected::StructName => kind == NameKind::Struct,
-            Expected::UnionName => kind == NameKind::Union,
-            Expected::Type => kind != NameKind::Constant && kind != NameKind::Program,
+            Expected::Constant => matches!(kind, NameKind::Constant),
+            Expected::EnumName => matches!(kind, NameKind::Enum),
+            Expected::StructName => matches!(kind, NameKind::Struct),
+            Expected::UnionName => matches!(kind, NameKind::Union),
+            Expected::Type => !matches!(kind, NameKind::Constant | NameKind::Program),
             _ => false,
         }
     }
@@ -117,7 +130,9 @@ pub fn expected_at(alloc: Global, session: &Session, at: usize) -> Result<Expect
 }
 
 /// Whether a token is a word that is being typed at a place within it, or where it ends.
-fn is_typed(token: &Token, at: usize) -> bool {
+fn is_typed(token: &Token, at: usize) -> bool
+    ensures { result ≡ is_typed (lexeme token.now) at }
+{
     match token.kind {
         Kind::Keyword | Kind::Name | Kind::Number | Kind::BadNumber => at <= token.end,
         _ => false,
@@ -125,7 +140,9 @@ fn is_typed(token: &Token, at: usize) -> bool {
 }
 
 /// Whether a place stands within a token of which no part is a word.
-fn is_within(token: &Token, at: usize) -> bool {
+fn is_within(token: &Token, at: usize) -> bool
+    ensures { result ≡ is_within (lexeme token.now) at }
+{
     match token.kind {
         Kind::Comment => at < token.end,
         Kind::OpenComment | Kind::Percent | Kind::Marker | Kind::Directive => at <= token.end,
@@ -159,22 +176,31 @@ enum Last {
 impl Last {
     /// Of a word behind another. The number of a program, a version or a procedure is no constant's name, so
     /// its `=` counts as none.
-    fn of(token: &Token, before: Last) -> Last {
-        let ends = matches!(
-            before,
-            Last::Mark(Mark::CloseBrace | Mark::CloseParenthesis)
-        );
-        match Mark::of(token.text) {
-            Some(Mark::Equals) if ends => Last::Other,
+    fn of(word: &[u8], before: Last) -> Last
+        ensures { result ≡ last_by (mark_of word.now) before }
+    {
+        match Mark::of(word) {
+            Some(Mark::Equals) if before.ends() => Last::Other,
             Some(mark) => Last::Mark(mark),
             None => Last::Other,
         }
+    }
+
+    /// Whether it ends a body, or arguments.
+    fn ends(self) -> bool
+        ensures { result ≡ ends self }
+    {
+        matches!(self, Last::Mark(Mark::CloseBrace | Mark::CloseParenthesis))
     }
 }
 
 impl Surroundings {
     /// Those of the start of a text.
-    fn new(alloc: Global) -> Surroundings {
+    fn new(alloc: Global) -> Surroundings
+        ensures bodies { result.bodies.items ≡ [] }
+        ensures parentheses { result.parentheses ≡ 0 }
+        ensures last { result.last ≡ Start }
+    {
         Surroundings {
             bodies: Vec::new(alloc),
             head: None,
@@ -186,7 +212,7 @@ impl Surroundings {
     /// Goes over a word.
     fn pass(&mut self, token: &Token) -> Result<(), NoMemory> {
         let before = self.last;
-        self.last = Last::of(token, before);
+        self.last = Last::of(token.text, before);
         let Last::Mark(mark) = self.last else {
             return Ok(());
         };
@@ -207,7 +233,10 @@ impl Surroundings {
     }
 
     /// What is expected behind the last word.
-    fn expected(&self) -> Expected {
+    fn expected(&self) -> Expected
+        ensures { result
+            ≡ expected_behind self.now.last self.now.parentheses (inmost self.now.bodies.items) }
+    {
         let mark = match self.last {
             Last::Start => return Expected::Definition,
             Last::Other => return Expected::Nothing,
@@ -227,7 +256,9 @@ impl Surroundings {
     }
 
     /// What is expected at the start of a part of the body around.
-    fn expected_in_body(&self) -> Expected {
+    fn expected_in_body(&self) -> Expected
+        ensures { result ≡ expected_in (inmost self.now.bodies.items) }
+    {
         match self.bodies.last() {
             None => Expected::Definition,
             Some(Mark::Enum) => Expected::Nothing,

@@ -1,18 +1,15 @@
 -- A server as a state, and what a message makes of it. It has a place in its life, a client, what it compiles
 -- documents on, and the documents that are open.
 use Rattle.std.specs.Prelude.{◌≡◌, ◌⊎◌, ℕ, Bool, true, false, MatchBool, List, [], map, codes, IsUtf8}
-use Rattle.std.specs.Prelude.{Option, None, Some, IfSome, option_and_then}
+use Rattle.std.specs.Prelude.{Option, None, Some}
 use Rattle.serde_json.specs.Data.{Data}
 use Rattle.serde_json.specs.Find.{get}
 use Rattle.serde_json.specs.Read.{read}
-use Rattle.x_frames.specs.Answers.{IsRefused, IsSaid}
+use Rattle.x_frames.specs.Answers.{IsSaid}
 use Rattle.x_frames.specs.KeptSaid.{no_memory_answer}
 use Rattle.x_frames.specs.Lives.{method_named}
 use Rattle.x_frames.specs.Messages.{Asked, asked_by, request, notification, response, invalid}
 use Rattle.x_frames.specs.Notes.{noted_by}
-use Rattle.x_frames.specs.Params.{uri_in}
-use Rattle.x_frames.specs.declared.answers.ErrorCode.{ErrorCode}
-use Rattle.x_frames.specs.declared.answers.ErrorCode.TheVariants.{ContentModified, InvalidParams}
 use Rattle.x_frames.specs.declared.life.Life.{Life}
 use Rattle.x_frames.specs.declared.life.Life.TheVariants.{Fresh, Running, ShutDown, Ended}
 use Rattle.x_frames.specs.declared.method.Method.{Method}
@@ -20,10 +17,11 @@ use Rattle.x_frames.specs.declared.method.Method.TheVariants.{Ask}
 use Rattle.x_positions.specs.declared.encoding.Encoding.TheVariants.{Utf16}
 use Rattle.x_published.specs.Clients.{client_of}
 use Rattle.x_published.specs.declared.client.Client.{Client}
-use Rattle.x_documents.specs.Documents.{Document, document_of, lost}
+use Rattle.x_documents.specs.Documents.{Document, lost}
 use Rattle.x_documents.specs.Grounds.{Ground, asked_on, ground_of}
 use Rattle.x_documents.specs.Noting.{Notes}
 use Rattle.x_documents.specs.Views.{documents_of}
+use Rattle.x_lsp.specs.Answering.{IsAnsweredBy, asked_document}
 use Rattle.x_lsp.specs.declared.server.Server.{Server}
 
 pub record ServerState : Type 0 where
@@ -59,24 +57,12 @@ GoesBy params s s' = (s'.client ≡ client_of params) × (s'.on ≡ asked_on s.o
 abbrev pub IsInitialized : ServerState → (params : Option Data) → ServerState → Type 0
 IsInitialized s params s' = (s.life ≡ Fresh) × (s'.life ≡ Running) × GoesBy params s s'
 
--- why a question is refused that names no open document, or one that is out of step
-abbrev pub refusal_by_text : Option (List ℕ) → Option ErrorCode
-refusal_by_text None = Some ContentModified
-refusal_by_text (Some text) = None
-
-abbrev pub refusal_by : Option Document → Option ErrorCode
-refusal_by None = Some InvalidParams
-refusal_by (Some d) = refusal_by_text d.text
-
-abbrev pub asked_document : List Document → (params : Option Data) → Option Document
-asked_document docs params = option_and_then (λ uri. document_of uri docs) (uri_in params)
-
--- a question is refused for that
-abbrev pub IsRefusedOf : Data → Option Method → List Document → (params : Option Data)
+-- a question is answered of the document that it names
+abbrev pub IsAskedOf : Data → Option Method → List Document → (params : Option Data)
     → (said : Option (List ℕ)) → Type 0
-IsRefusedOf id (Some (Ask question)) docs params said =
-    IfSome (refusal_by (asked_document docs params)) (λ code. IsRefused id code said)
-IsRefusedOf id method docs params said = Unit {0}
+IsAskedOf id (Some (Ask question)) docs params said =
+    IsAnsweredBy id question (asked_document docs params) params said
+IsAskedOf id method docs params said = Unit {0}
 
 -- What a message makes of a server beside its life. A request leaves the documents as they are. A
 -- notification makes of them what it asks for, where the server runs.
@@ -84,7 +70,7 @@ abbrev pub MakesOf : ServerState → Asked → (params : Option Data) → (said 
     → Type 0
 MakesOf s (request id name) params said s' =
     (s'.documents ≡ s.documents) × (GoesBySame s s' ⊎ IsInitialized s params s')
-    × (s.life ≡ Running → IsRefusedOf id (method_named name) s.documents params said)
+    × (s.life ≡ Running → IsAskedOf id (method_named name) s.documents params said)
 MakesOf s (notification name) params said s' = GoesBySame s s' × MatchBool (is_running s.life)
     (Notes s.client s.on s.documents (noted_by name params) said s'.documents)
     ((said ≡ None) × (s'.documents ≡ s.documents))

@@ -8,7 +8,7 @@ ghost use Rattle.serde_json.specs.Written.{has_float};
 ghost use Rattle.x_documents.specs.Grounds.{ground_of};
 ghost use Rattle.x_documents.specs.Noting.{Notes};
 ghost use Rattle.x_documents.specs.Replies.{said_of};
-ghost use Rattle.x_documents.specs.Views.{documents_of};
+ghost use Rattle.x_documents.specs.Views.{documents_of, view_document};
 ghost use Rattle.x_frames.specs.Answers.{IsRefused, IsSaid, IsSaidTo, IsToMethod, IsToNotification};
 ghost use Rattle.x_frames.specs.Answers.{IsToRequest};
 ghost use Rattle.x_frames.specs.Lives.{end_of, is_of_request, life_behind, life_noted, method_named};
@@ -16,8 +16,9 @@ ghost use Rattle.x_frames.specs.Messages.{asked_by};
 ghost use Rattle.x_frames.specs.Notes.{noted_by};
 ghost use Rattle.x_frames.specs.declared.life.Life.TheVariants.{Running};
 ghost use Rattle.x_frames.specs.declared.method.Method.TheVariants.{Ask, Initialize};
-ghost use Rattle.x_lsp.specs.States.{GoesBy, GoesBySame, IsInitialized, IsRefusedOf, Makes, MakesOf};
-ghost use Rattle.x_lsp.specs.States.{asked_document, fresh, is_running, refusal_by, state_of};
+ghost use Rattle.x_lsp.specs.Answering.{FindsAt, FindsOf, IsAnsweredBy, asked_document};
+ghost use Rattle.x_lsp.specs.States.{GoesBy, GoesBySame, IsAskedOf, IsInitialized, Makes, MakesOf};
+ghost use Rattle.x_lsp.specs.States.{fresh, is_running, state_of};
 
 use serde_json::Value;
 use std::alloc::{AllocError, Global};
@@ -120,7 +121,7 @@ impl<'k> Server<'k> {
         ensures goes { GoesBySame (state_of self.old) (state_of self.new)
             ⊎ IsInitialized (state_of self.old) (option_map (λ p. view p.now) params.entry)
             (state_of self.new) }
-        ensures refused { self.old.life ≡ Running → IsRefusedOf (view id.now) (method_named name.now)
+        ensures asked { self.old.life ≡ Running → IsAskedOf (view id.now) (method_named name.now)
             (documents_of self.old.documents) (option_map (λ p. view p.now) params.entry)
             (said_of result) }
     {
@@ -138,10 +139,10 @@ impl<'k> Server<'k> {
         ensures goes { GoesBySame (state_of self.old) (state_of self.new)
             ⊎ ((method ≡ Initialize) × (self.new.life ≡ Running)
             × GoesBy (option_map (λ p. view p.now) params.entry) (state_of self.old) (state_of self.new)) }
-        ensures refused { (question : Question) → method ≡ Ask question
-            → IfSome (refusal_by (asked_document (documents_of self.old.documents)
-            (option_map (λ p. view p.now) params.entry)))
-            (λ code. IsRefused (view id.now) code (said_of result)) }
+        ensures asked { (question : Question) → method ≡ Ask question
+            → IsAnsweredBy (view id.now) question (asked_document (documents_of self.old.documents)
+            (option_map (λ p. view p.now) params.entry)) (option_map (λ p. view p.now) params.entry)
+            (said_of result) }
     {
         match self.result_of(method, params) {
             Ok(value) => match answer(self.alloc, id, value) {
@@ -159,9 +160,10 @@ impl<'k> Server<'k> {
     fn result_of(&self, method: Method, params: Option<&Value>) -> Result<Value, ErrorCode>
         ensures value { IfOk result (λ v. has_float (view v) ≡ false) }
         ensures code { IfErr result (λ code. is_of_request code ≡ true) }
-        ensures refused { (question : Question) → method ≡ Ask question
-            → IfSome (refusal_by (asked_document (documents_of self.now.documents)
-            (option_map (λ p. view p.now) params.entry))) (λ code. result ≡ Err code) }
+        ensures asked { (question : Question) → method ≡ Ask question
+            → FindsOf question (asked_document (documents_of self.now.documents)
+            (option_map (λ p. view p.now) params.entry)) (option_map (λ p. view p.now) params.entry)
+            result }
     {
         match method {
             Method::Initialize => match capabilities_of(self.alloc, client_in(params).encoding) {
@@ -177,8 +179,9 @@ impl<'k> Server<'k> {
     fn asked(&self, question: Question, params: Option<&Value>) -> Result<Value, ErrorCode>
         ensures value { IfOk result (λ v. has_float (view v) ≡ false) }
         ensures code { IfErr result (λ code. is_of_request code ≡ true) }
-        ensures refused { IfSome (refusal_by (asked_document (documents_of self.now.documents)
-            (option_map (λ p. view p.now) params.entry))) (λ code. result ≡ Err code) }
+        ensures finds { FindsOf question (asked_document (documents_of self.now.documents)
+            (option_map (λ p. view p.now) params.entry)) (option_map (λ p. view p.now) params.entry)
+            result }
     {
         let Some(uri) = uri_in(params) else {
             return Err(ErrorCode::InvalidParams);
@@ -198,7 +201,8 @@ impl<'k> Server<'k> {
     ) -> Result<Value, ErrorCode>
         ensures value { IfOk result (λ v. has_float (view v) ≡ false) }
         ensures code { IfErr result (λ code. is_of_request code ≡ true) }
-        ensures out_of_step { document.now.in_step ≡ false → result ≡ Err ErrorCode.ContentModified }
+        ensures finds { FindsAt question (view_document document.now) (view_document document.now).text
+            (option_map (λ p. view p.now) params.entry) result }
     {
         if !document.is_in_step() {
             return Err(ErrorCode::ContentModified);

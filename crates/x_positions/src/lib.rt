@@ -1,7 +1,6 @@
 //! The positions of a text's characters (LSP 3.17): a line and a character in it, both counted from 0.
 #![tactic(auto)]
 
-mod cursor;
 mod encoding;
 mod laws;
 mod marking;
@@ -12,7 +11,6 @@ mod spots;
 mod values;
 mod waymarks;
 
-pub use cursor::Cursor;
 pub use encoding::Encoding;
 pub use laws::positions_lead_back;
 pub use marking::Marker;

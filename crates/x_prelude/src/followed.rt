@@ -160,6 +160,7 @@ impl FollowedText {
         ensures files { OnOk result (self.new.files.items ≡ files.now) }
         ensures from_c { self.new.from_c ≡ self.old.from_c }
         ensures text { OnOk result (self.new.session.text ≡ bytes.now) }
+        ensures base { IsOver self.old → self.new.session.base ≡ self.old.session.base }
         ensures before { OnOk result
             (IsBefore files.now self.old.from_c bytes.now self.new.session.known) }
         ensures large { IsErrOf result TextFault.TooLarge

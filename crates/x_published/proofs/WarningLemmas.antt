@@ -1,5 +1,5 @@
 -- What is published of names that clash in C.
-use Rattle.std.proofs.Common.{◌≡◌, ◌∙◌, ℕ, zero, suc, ◌+◌, ◌≤◌, arith, Bool, true, false, cond}
+use Rattle.std.proofs.Common.{◌≡◌, ◌∙◌, ℕ, zero, suc, ◌≤◌, arith, Bool, true, false, cond}
 use Rattle.std.proofs.Common.{List, [], ◌∷◌, ◌++◌, ap, append_assoc, length}
 use Rattle.std.specs.Prelude.{Result, Ok, Err, OnOk}
 use Rattle.x_positions.specs.Positions.{ends_line, lines_before}

@@ -1,8 +1,8 @@
 //! What is said of faults, kept from one publication to the next.
 
 ghost use Rattle.std.specs.List.{before_first};
-ghost use Rattle.std.specs.Prelude.{◌≡◌, ◌==◌, ◌++◌, IfOk, IfSome, IsTrue, codes, length, string_bytes};
-ghost use Rattle.std.specs.Prelude.{OnOk, take};
+ghost use Rattle.std.specs.Prelude.{◌≡◌, ◌==◌, ◌++◌, IfOk, IfSome, IsTrue, [], codes, length, option_map};
+ghost use Rattle.std.specs.Prelude.{OnOk, string_bytes, take};
 ghost use Rattle.x_rules.specs.declared.fault.RuleCode.TheVariants.{Unknown};
 ghost use Rattle.x_compile.specs.Faults.{fault_text};
 ghost use Rattle.x_compile.specs.declared.fault.FaultCode.TheVariants.{Rule};
@@ -131,7 +131,9 @@ pub fn foreign_message(alloc: Global, name: &[u8]) -> Result<FaultMessage, Alloc
 }
 
 /// What the name of a fault is declared as.
-fn kind_of(known: &Known) -> Option<NameKind> {
+fn kind_of(known: &Known) -> Option<NameKind>
+    ensures { result ≡ option_map (λ first. first.place.kind) known.now.first }
+{
     Some(known.first?.place.kind)
 }
 
@@ -194,7 +196,9 @@ pub struct FaultMessages {
 
 impl FaultMessages {
     /// The messages of no fault.
-    pub fn new(alloc: Global) -> FaultMessages {
+    pub fn new(alloc: Global) -> FaultMessages
+        ensures { result.list.items ≡ [] }
+    {
         FaultMessages {
             list: Vec::new(alloc),
         }

@@ -6,7 +6,7 @@ ghost use Rattle.x_compile.specs.Compile.{IsCompilation, Item};
 ghost use Rattle.x_declared.specs.DeclaredNames.{definition_of};
 ghost use Rattle.x_explain.specs.Facts.{AreNamesOf};
 ghost use Rattle.x_published.specs.Diagnostics.{IsRangeAt, declared_elsewhere, is_of_declarer, other_place};
-ghost use Rattle.x_published.specs.OtherPlaces.{AreOfText};
+ghost use Rattle.x_published.specs.OtherPlaces.{AreOfText, is_unknown, says_name};
 ghost use Rattle.x_positions.specs.Waymarks.{AreWaymarks};
 
 use std::alloc::Global;
@@ -165,7 +165,9 @@ impl<'s> OtherPlaces<'s> {
 }
 
 /// Whether what is said of a fault tells the name, or what that is declared as.
-fn says_name(code: FaultCode) -> bool {
+fn says_name(code: FaultCode) -> bool
+    ensures { result ≡ says_name code }
+{
     matches!(
         code,
         FaultCode::Rule(RuleCode::Duplicate | RuleCode::NotType | RuleCode::NotConst)
@@ -173,7 +175,9 @@ fn says_name(code: FaultCode) -> bool {
 }
 
 /// Whether the word of a fault is not declared.
-fn is_unknown(code: FaultCode) -> bool {
+fn is_unknown(code: FaultCode) -> bool
+    ensures { result ≡ is_unknown code }
+{
     matches!(code, FaultCode::Rule(RuleCode::Unknown))
 }
 

@@ -1,1 +1,5 @@
+pub mod Asking
+pub mod Completing
+pub mod Parts
 pub mod Refusing
+pub mod Writing

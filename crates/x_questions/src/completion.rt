@@ -3,6 +3,10 @@
 ghost use Rattle.std.specs.Prelude.{◌≡◌, false, IfOk};
 ghost use Rattle.serde_json.specs.View.{view};
 ghost use Rattle.serde_json.specs.Written.{has_float};
+ghost use Rattle.x_trees.specs.Collected.{view_name};
+ghost use Rattle.x_trees.specs.View.{view_definition};
+ghost use Rattle.x_names.specs.DeclarerTable.{first_in};
+ghost use Rattle.x_questions.specs.Completing.{is_first, item_kind, item_number};
 
 use crate::open_text::OpenText;
 use serde_json::{Value, json};
@@ -29,12 +33,14 @@ enum ItemKind {
 
 impl ItemKind {
     /// Of a name that a definition declares.
-    fn of_name(definition: &Definition, kind: NameKind) -> Option<ItemKind> {
+    fn of_name(definition: &Definition, kind: NameKind) -> Option<ItemKind>
+        ensures { result ≡ item_kind (view_definition definition.now) kind }
+    {
         match kind {
-            NameKind::Constant if matches!(definition, Definition::Const { .. }) => {
-                Some(ItemKind::Constant)
-            }
-            NameKind::Constant => Some(ItemKind::EnumMember),
+            NameKind::Constant => Some(match definition {
+                Definition::Const { .. } => ItemKind::Constant,
+                _ => ItemKind::EnumMember,
+            }),
             NameKind::Enum => Some(ItemKind::Enum),
             NameKind::Struct | NameKind::Union => Some(ItemKind::Struct),
             NameKind::Typedef => Some(ItemKind::Class),
@@ -42,7 +48,9 @@ impl ItemKind {
         }
     }
 
-    fn number(self) -> u32 {
+    fn number(self) -> u32
+        ensures { result ≡ item_number self }
+    {
         match self {
             ItemKind::Class => 7,
             ItemKind::Enum => 13,
@@ -114,10 +122,13 @@ fn add_name(
 }
 
 /// Whether a name that stands in this place among those of an item is declared nowhere before.
-fn is_first(names: &Names, declared: &DeclaredName, item: usize, place: usize) -> bool {
-    names
-        .first(&declared.name)
-        .is_some_and(|first| first.item == item && first.place == place)
+fn is_first(names: &Names, declared: &DeclaredName, item: usize, place: usize) -> bool
+    ensures { let d = view_name declared.now in result ≡ is_first (first_in names.now d.name) item place }
+{
+    match names.first(&declared.name) {
+        Some(first) => first.item == item && first.place == place,
+        None => false,
+    }
 }
 
 /// Adds a word.

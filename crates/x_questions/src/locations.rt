@@ -5,7 +5,7 @@ ghost use Rattle.serde_json.specs.View.{view};
 ghost use Rattle.serde_json.specs.Written.{has_float};
 ghost use Rattle.x_text.specs.Limits.{most_text};
 ghost use Rattle.x_frames.specs.declared.answers.ErrorCode.TheVariants.{NameUnparsed};
-ghost use Rattle.x_positions.specs.Positions.{lines_before};
+ghost use Rattle.x_positions.specs.Positions.{lines_before, position_of};
 
 use crate::open_text::OpenText;
 use serde_json::{Value, json, push};
@@ -44,7 +44,11 @@ pub(crate) fn places_value(
 }
 
 /// The range of a token.
-pub(crate) fn range_of(places: &mut Places, token: &Token) -> Range {
+pub(crate) fn range_of(places: &mut Places, token: &Token) -> Range
+    ensures start { result.start ≡ position_of places.old.encoding places.old.text token.now.start }
+    ensures end { result.end ≡ position_of places.old.encoding places.old.text token.now.end }
+    ensures same { places.new ≡ places.old }
+{
     Range {
         start: places.position(token.start),
         end: places.position(token.end),

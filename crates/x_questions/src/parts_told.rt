@@ -1,5 +1,10 @@
 //! What is told of the parts of a definition that no other one names: fields, versions and procedures.
 
+ghost use Rattle.std.specs.Prelude.{◌≡◌, map, slice_get};
+ghost use Rattle.x_lex.specs.Places.{lexeme};
+ghost use Rattle.x_lookups.specs.NamePlaces.{touches};
+ghost use Rattle.x_questions.specs.Parts.{has_number, kind_text, span_of, text_of};
+
 use crate::hover::ToldWord;
 use crate::written::{item_tokens, number_in, told_lines};
 use std::alloc::Global;
@@ -55,7 +60,9 @@ fn item_at(alloc: Global, session: &Session, at: usize) -> Result<Option<usize>,
 }
 
 /// Whether a token holds a place, or ends there.
-fn touches(token: &Token, at: usize) -> bool {
+fn touches(token: &Token, at: usize) -> bool
+    ensures { result ≡ touches (lexeme token.now) at }
+{
     token.start <= at && at <= token.end
 }
 
@@ -91,18 +98,19 @@ fn told_of(
 }
 
 /// Where tokens start and end.
-fn span_of(tokens: &[Token]) -> Option<(usize, usize)> {
-    match tokens {
-        [] => None,
-        [first, ..] => {
-            let last = tokens.last().unwrap_or(first);
-            Some((first.start, last.end))
-        }
+fn span_of(tokens: &[Token]) -> Option<(usize, usize)>
+    ensures { result ≡ span_of (map lexeme tokens.now) }
+{
+    match (tokens.first(), tokens.last()) {
+        (Some(first), Some(last)) => Some((first.start, last.end)),
+        _ => None,
     }
 }
 
 /// What a part is called.
-fn kind_text(kind: PartKind) -> &'static str {
+fn kind_text(kind: PartKind) -> &'static str
+    ensures { result.now ≡ kind_text kind }
+{
     match kind {
         PartKind::Constant => "constant",
         PartKind::Enum => "enum",
@@ -118,7 +126,9 @@ fn kind_text(kind: PartKind) -> &'static str {
 }
 
 /// Whether a part has a number at its end.
-fn has_number(kind: PartKind) -> bool {
+fn has_number(kind: PartKind) -> bool
+    ensures { result ≡ has_number kind }
+{
     matches!(
         kind,
         PartKind::Program | PartKind::Version | PartKind::Procedure
@@ -154,7 +164,9 @@ fn name_around(alloc: Global, tokens: &[Token], parts: &[Part]) -> Result<Vec<u8
     Ok(name)
 }
 
-fn text_at<'s>(tokens: &[Token<'s>], index: usize) -> &'s [u8] {
+fn text_at<'s>(tokens: &[Token<'s>], index: usize) -> &'s [u8]
+    ensures { result.now ≡ text_of (slice_get (map lexeme tokens.now) index) }
+{
     match tokens.get(index) {
         Some(token) => token.text,
         None => &[],

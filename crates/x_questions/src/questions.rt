@@ -1,9 +1,9 @@
 //! What is answered to questions about a place in a document.
 
-ghost use Rattle.std.specs.Prelude.{◌≡◌, false, true, IfErr, IfOk};
+ghost use Rattle.std.specs.Prelude.{◌≡◌, false, true, IfErr, IfOk, IsPermutation};
 ghost use Rattle.serde_json.specs.View.{view};
 ghost use Rattle.serde_json.specs.Written.{has_float};
-ghost use Rattle.x_frames.specs.Lives.{is_of_request};
+ghost use Rattle.x_frames.specs.Lives.{is_of_question};
 ghost use Rattle.x_questions.specs.Refusing.{RefusesUnparsed};
 
 use crate::completion::completion;
@@ -34,39 +34,27 @@ pub fn answer_about_place(
     params: Option<&Value>,
 ) -> Result<Value, ErrorCode>
     ensures value { IfOk result (λ v. has_float (view v) ≡ false) }
-    ensures code { IfErr result (λ code. is_of_request code ≡ true) }
+    ensures code { IfErr result (λ code. is_of_question code ≡ true) }
 {
     let Some(at) = place else {
         return Err(ErrorCode::InvalidParams);
     };
     match question {
-        PositionQuestion::Definition => found(definition(alloc, encoding, document, at)),
+        PositionQuestion::Definition => Ok(definition(alloc, encoding, document, at)?),
         PositionQuestion::References => match declared_in(params) {
             Some(declared) => references(alloc, encoding, document, at, declared),
             None => Err(ErrorCode::InvalidParams),
         },
         PositionQuestion::Highlights => {
-            found(uses(alloc, encoding, document, at, true, Told::Highlight))
+            Ok(uses(alloc, encoding, document, at, true, Told::Highlight)?)
         }
-        PositionQuestion::Hover => found(hover(alloc, encoding, document, at)),
-        PositionQuestion::Completion => found(completion(alloc, document, at)),
-        PositionQuestion::PrepareRename => found(renamed_range(alloc, encoding, document, at)),
+        PositionQuestion::Hover => Ok(hover(alloc, encoding, document, at)?),
+        PositionQuestion::Completion => Ok(completion(alloc, document, at)?),
+        PositionQuestion::PrepareRename => Ok(renamed_range(alloc, encoding, document, at)?),
         PositionQuestion::Rename => match new_name_in(params) {
             Some(name) => rename(alloc, encoding, document, at, name),
             None => Err(ErrorCode::InvalidParams),
         },
-    }
-}
-
-/// A result, or that memory ran out.
-fn found(value: Result<Value, NoMemory>) -> Result<Value, ErrorCode>
-    requires { IfOk value (λ v. has_float (view v) ≡ false) }
-    ensures value { IfOk result (λ v. has_float (view v) ≡ false) }
-    ensures code { IfErr result (λ code. is_of_request code ≡ true) }
-{
-    match value {
-        Ok(value) => Ok(value),
-        Err(NoMemory) => Err(ErrorCode::InternalError),
     }
 }
 
@@ -99,13 +87,12 @@ fn references(
     declared: bool,
 ) -> Result<Value, ErrorCode>
     ensures value { IfOk result (λ v. has_float (view v) ≡ false) }
-    ensures code { IfErr result (λ code. is_of_request code ≡ true) }
+    ensures code { IfErr result (λ code. is_of_question code ≡ true) }
     ensures refused { RefusesUnparsed document.now.compiled.now.session document.now.shown.now at result }
 {
-    match unparsed_use_at(alloc, &document.compiled.session, at) {
-        Ok(Some(token)) => Err(name_unparsed(encoding, document, &token)),
-        Ok(None) => found(uses(alloc, encoding, document, at, declared, Told::Location)),
-        Err(NoMemory) => Err(ErrorCode::InternalError),
+    match unparsed_use_at(alloc, &document.compiled.session, at)? {
+        Some(token) => Err(name_unparsed(encoding, document, &token)),
+        None => Ok(uses(alloc, encoding, document, at, declared, Told::Location)?),
     }
 }
 
@@ -126,6 +113,8 @@ fn uses(
 }
 
 /// Puts tokens in the order of the text, so that one walk over it finds the places of all.
-fn put_in_order(tokens: &mut Vec<Token>) {
+fn put_in_order(tokens: &mut Vec<Token>)
+    ensures { IsPermutation tokens.old.items tokens.new.items }
+{
     tokens.sort_unstable_by_key(|token| token.start);
 }

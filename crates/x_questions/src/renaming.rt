@@ -3,7 +3,7 @@
 ghost use Rattle.std.specs.Prelude.{◌≡◌, false, true, IfErr, IfOk, IfSome};
 ghost use Rattle.serde_json.specs.View.{view};
 ghost use Rattle.serde_json.specs.Written.{has_float};
-ghost use Rattle.x_frames.specs.Lives.{is_of_request};
+ghost use Rattle.x_frames.specs.Lives.{is_of_question};
 ghost use Rattle.x_questions.specs.Refusing.{RefusesUnparsed};
 
 use crate::locations::{name_unparsed, range_of};
@@ -52,7 +52,7 @@ pub(crate) fn rename(
     name: &str,
 ) -> Result<Value, ErrorCode>
     ensures value { IfOk result (λ v. has_float (view v) ≡ false) }
-    ensures code { IfErr result (λ code. is_of_request code ≡ true) }
+    ensures code { IfErr result (λ code. is_of_question code ≡ true) }
     ensures refused { RefusesUnparsed document.now.compiled.now.session document.now.shown.now at result }
 {
     match renamed(alloc, encoding, document, at, name) {
@@ -70,7 +70,7 @@ fn renamed(
     name: &str,
 ) -> Result<Result<Value, ErrorCode>, NoMemory>
     ensures value { IfOk result (λ r. IfOk r (λ v. has_float (view v) ≡ false)) }
-    ensures code { IfOk result (λ r. IfErr r (λ code. is_of_request code ≡ true)) }
+    ensures code { IfOk result (λ r. IfErr r (λ code. is_of_question code ≡ true)) }
     ensures refused { IfOk result (λ r.
         RefusesUnparsed document.now.compiled.now.session document.now.shown.now at r) }
 {
@@ -89,7 +89,7 @@ fn renamed_as_parsed(
     name: &str,
 ) -> Result<Result<Value, ErrorCode>, NoMemory>
     ensures value { IfOk result (λ r. IfOk r (λ v. has_float (view v) ≡ false)) }
-    ensures code { IfOk result (λ r. IfErr r (λ code. is_of_request code ≡ true)) }
+    ensures code { IfOk result (λ r. IfErr r (λ code. is_of_question code ≡ true)) }
 {
     let session = &document.compiled.session;
     let names = names(alloc, session)?;
@@ -266,7 +266,7 @@ fn edits_of_all(
     new_names: &NewNames,
 ) -> Result<Result<Value, ErrorCode>, NoMemory>
     ensures value { IfOk result (λ r. IfOk r (λ v. has_float (view v) ≡ false)) }
-    ensures code { IfOk result (λ r. IfErr r (λ code. is_of_request code ≡ true)) }
+    ensures code { IfOk result (λ r. IfErr r (λ code. is_of_question code ≡ true)) }
 {
     for old in new_names.keys() {
         if let Some(token) = unparsed_use(alloc, &document.compiled.session, old)? {

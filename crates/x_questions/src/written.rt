@@ -1,5 +1,9 @@
 //! Definitions as they are written.
 
+ghost use Rattle.std.specs.Prelude.{◌≡◌, None, map};
+ghost use Rattle.x_lex.specs.Places.{lexeme};
+ghost use Rattle.x_questions.specs.Writing.{are_before, last_number};
+
 use crate::locations::range_of;
 use memchr::memchr_iter;
 use std::alloc::Global;
@@ -53,7 +57,9 @@ struct Comments {
 impl Comments {
     /// Whether they stand directly in front of what is in this line. Behind something else in its line a
     /// comment is about that, unless the line goes on.
-    fn are_before(self, line: usize) -> bool {
+    fn are_before(self, line: usize) -> bool
+        ensures { result ≡ are_before self line }
+    {
         line == self.line || (self.alone && line == self.line.saturating_add(1))
     }
 }
@@ -107,7 +113,9 @@ fn is_alone(shown: &[u8], start: usize, bytes: usize) -> bool {
 }
 
 /// The number of a program, a version or a procedure with these tokens: the last one in them.
-pub(crate) fn number_in(tokens: &[Token]) -> Option<i128> {
+pub(crate) fn number_in(tokens: &[Token]) -> Option<i128>
+    ensures { result ≡ last_number None (map lexeme tokens.now) }
+{
     let mut number = None;
     for token in tokens {
         if token.kind == Kind::Number {

@@ -10,8 +10,6 @@ mod definitions;
 #[cfg(test)]
 mod edits;
 #[cfg(test)]
-mod lines;
-#[cfg(test)]
 mod scripts;
 #[cfg(test)]
 mod sessions;

@@ -7,7 +7,7 @@ use std::io::{self, Write};
 use std::process::Abort;
 use std::test::Fail;
 use x_script::EngineFault;
-use x_text::{MemSink, MemTap, Out, Sink, Tap};
+use x_text::{MemTap, Out, Sink, Tap};
 
 /// Runs a script on the text `int s`, which an edit makes `ints`.
 fn run_on_ints(
@@ -20,28 +20,6 @@ fn run_on_ints(
     let fault = run(alloc, &mut text, tap, sink).err();
     expect_text(rt, &text.session, b"ints");
     Ok(fault)
-}
-
-#[test]
-fn a_failed_tap_leaves_the_lines_before(rt: HostRuntime) -> Result<(), Fail> {
-    let mut buffer = [0u8; 64];
-    let mut sink = MemSink::new(&mut buffer, 64, 64);
-    let mut tap = MemTap::new(b"edit 3 4\nfaults", 64, 12);
-    let fault = run_on_ints(&rt, rt.alloc(), &mut tap, &mut sink)?;
-    expect_eq(&rt, fault, Some(EngineFault::Read { written: 5 }));
-    expect_eq(&rt, sink.bytes(), b"ok 4\n".as_slice());
-    Ok(())
-}
-
-#[test]
-fn a_full_sink_leaves_the_line_carried_out(rt: HostRuntime) -> Result<(), Fail> {
-    let mut buffer = [0u8; 64];
-    let mut sink = MemSink::new(&mut buffer, 1, 3);
-    let mut tap = MemTap::new(b"edit 3 4\nedit 0 1\n", 64, usize::MAX);
-    let fault = run_on_ints(&rt, rt.alloc(), &mut tap, &mut sink)?;
-    expect_eq(&rt, fault, Some(EngineFault::Write { written: 3 }));
-    expect_eq(&rt, sink.bytes(), b"ok ".as_slice());
-    Ok(())
 }
 
 /// A writer that takes all and can't pass it on.

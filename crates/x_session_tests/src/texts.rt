@@ -5,7 +5,7 @@ use x_script::{EngineFault, LineFault};
 use x_session::SchemaFault;
 
 #[test]
-fn faults_of_a_run_have_their_texts(rt: HostRuntime) -> Result<(), Fail> {
+fn faults_have_their_texts(rt: HostRuntime) -> Result<(), Fail> {
     let rows = [
         (
             EngineFault::Read { written: 5 },
@@ -23,11 +23,6 @@ fn faults_of_a_run_have_their_texts(rt: HostRuntime) -> Result<(), Fail> {
     for (fault, wanted) in rows {
         expect_text(&rt, rt.alloc(), &fault, wanted)?;
     }
-    Ok(())
-}
-
-#[test]
-fn faults_of_a_line_and_of_types_have_their_texts(rt: HostRuntime) -> Result<(), Fail> {
     expect_text(&rt, rt.alloc(), &LineFault::Read, "a read failed")?;
     expect_text(&rt, rt.alloc(), &LineFault::NoMemory, "out of memory")?;
     expect_text(&rt, rt.alloc(), &SchemaFault::Faulty, "40 Faulty")?;

@@ -3,7 +3,7 @@ use Rattle.std.specs.Prelude.{OnOk}
 use Rattle.std.proofs.Math.Logic.{∥∥₁_map}
 use Rattle.x_prelude.specs.Before.{IsBefore}
 use Rattle.x_text.specs.Edits.{change_of, edited_by}
-use Rattle.x_documents.proofs.CompiledLemmas.{large_so, merely_on}
+use Rattle.x_documents.proofs.CompiledLemmas.{large_so, merely_on, text_same}
 use Rattle.x_documents.proofs.compiled.follow.Goals as goal
 
 pub returns-in_err-apply-clause-over : goal.returns-in_err-apply-clause-over
@@ -32,3 +32,7 @@ returns-clause-large c =
     λ e. ∥∥₁_map c.requires (λ over.
     large_so old.files.items mid.files.items old.from_c mid.from_c c.args.bytes.now mid.session.text
     (ap (λ f. f.items) c.apply.ensures.files) c.apply.ensures.from_c text (c.renew.ensures.large (c.apply.ensures.over over) e))
+
+pub returns-clause-base : goal.returns-clause-base
+returns-clause-base c = text_same c.renew.new.self.session.base c.args.text.now.session.base c.requires
+    (λ over. c.renew.ensures.base (c.apply.ensures.over over) ∙ c.apply.ensures.base)

@@ -1,5 +1,4 @@
 use Rattle.std.proofs.Common.{◌≡◌, ◌∙◌, ◌∷◌, [], ap, refl, subst, sym}
-use Rattle.std.specs.Prelude.{Some, option_map}
 use Rattle.x_positions.specs.Positions.{position_of}
 use Rattle.x_positions.specs.PositionData.{range_data}
 use Rattle.x_published.specs.declared.published.Diagnostic.{Diagnostic}

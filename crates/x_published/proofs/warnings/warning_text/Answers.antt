@@ -1,4 +1,4 @@
-use Rattle.std.proofs.Common.{◌≡◌, ◌++◌, ◌∙◌, ap, codes}
+use Rattle.std.proofs.Common.{◌++◌, ◌∙◌, ap, codes}
 use Rattle.std.specs.Str.Lossy.{utf8_lossy}
 use Rattle.x_published.specs.Warned.{other_text}
 use Rattle.x_published.proofs.warnings.warning_text.Goals as goal

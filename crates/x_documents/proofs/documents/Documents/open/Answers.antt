@@ -1,5 +1,6 @@
-use Rattle.std.proofs.Common.{◌∙◌, ap, inl, w64}
+use Rattle.std.proofs.Common.{◌∙◌, ap, inl, inr, refl, w64}
 use Rattle.std.proofs.lemmas.Int.{to_z-of_z}
+use Rattle.x_text.specs.declared.text.fault.TextFault.TheVariants.{NoMemory}
 use Rattle.x_documents.specs.Documents.{opened_as, put}
 use Rattle.x_documents.specs.Grounds.{ground_of}
 use Rattle.x_documents.specs.Noting.{refused_text}
@@ -20,6 +21,10 @@ returns-in-Ok-put-clause-opens c =
       c.in-Ok-put.ensures.put ∙ ap (λ d. put uri d (documents_of c.args.self.now)) (c.publish-reply.ensures.same ∙ opened),
       published_as c.in-Ok.document c.args.client on uri c.args.version text (said_of c.publish-reply.result) opened c.in-Ok.ensures.in_step c.publish-reply.ensures.says,
     )
+
+pub returns-in-Err-put-clause-opens : goal.returns-in-Err-put-clause-opens
+returns-in-Err-put-clause-opens c =
+    inr (NoMemory, tt, inr (refl, c.in-Err-put.ensures.none, c.in-Err-put.ensures.same))
 
 pub returns-in-Err-put-clause-note : goal.returns-in-Err-put-clause-note
 returns-in-Err-put-clause-note c = no_memory_is_note

@@ -1,5 +1,5 @@
 use Rattle.std.proofs.Common.{◌≡◌, ◌∙◌, ℕ, List, Option, None, Some, Result, Ok, Err, ap, subst}
-use Rattle.std.specs.Prelude.{IfSome, MatchResult}
+use Rattle.std.specs.Prelude.{MatchResult}
 use Rattle.serde_json.specs.Data.{Data}
 use Rattle.serde_json.specs.View.{view}
 use Rattle.x_frames.specs.Answers.{IsRefused, IsToMethod}
@@ -11,7 +11,8 @@ use Rattle.x_frames.specs.declared.life.Life.TheVariants.{Running}
 use Rattle.x_frames.specs.declared.method.Method.{Method}
 use Rattle.x_frames.specs.declared.method.Method.TheVariants.{Ask, Initialize, Shutdown}
 use Rattle.x_frames.specs.declared.method.Question.{Question}
-use Rattle.x_lsp.specs.States.{IsRefusedOf, asked_document, refusal_by}
+use Rattle.x_lsp.specs.Answering.{IsAnsweredBy, asked_document}
+use Rattle.x_lsp.specs.States.{IsAskedOf}
 use Rattle.x_lsp.proofs.server.Server.answer_request.Goals as goal
 
 pub returns-in-Ok-clause-said : goal.returns-in-Ok-clause-said
@@ -29,19 +30,19 @@ method_of (Err code) = Shutdown
 
 of_running : (named : Option Method) (method : Method) (id : Data) (docs : List Document) (params : Option Data) (said : Option (List ℕ))
     → Ok method ≡ admitted Running named
-    → ((question : Question) → method ≡ Ask question → IfSome (refusal_by (asked_document docs params)) (λ code. IsRefused id code said))
-    → IsRefusedOf id named docs params said
+    → ((question : Question) → method ≡ Ask question → IsAnsweredBy id question (asked_document docs params) params said)
+    → IsAskedOf id named docs params said
 unfolding method_of
-of_running None method id docs params said is refused = tt
-of_running (Some Initialize) method id docs params said is refused = tt
-of_running (Some Shutdown) method id docs params said is refused = tt
-of_running (Some (Ask question)) method id docs params said is refused = refused question (ap method_of is)
+of_running None method id docs params said is asked = tt
+of_running (Some Initialize) method id docs params said is asked = tt
+of_running (Some Shutdown) method id docs params said is asked = tt
+of_running (Some (Ask question)) method id docs params said is asked = asked question (ap method_of is)
 
-pub returns-in-Ok-clause-refused : goal.returns-in-Ok-clause-refused
-returns-in-Ok-clause-refused c =
+pub returns-in-Ok-clause-asked : goal.returns-in-Ok-clause-asked
+returns-in-Ok-clause-asked c =
     let id = view c.args.id.now in
     let said = said_of c.carry_out.result in
     let named = method_named c.args.name.now in
     λ runs.
     of_running named c.in-Ok.method id (documents_of c.args.self.now.documents) _ said
-    (c.in-Ok.ensures ∙ ap (admitted c.args.self.now.life) c.named.ensures ∙ ap (λ l. admitted l named) runs) c.carry_out.ensures.refused
+    (c.in-Ok.ensures ∙ ap (admitted c.args.self.now.life) c.named.ensures ∙ ap (λ l. admitted l named) runs) c.carry_out.ensures.asked

@@ -2,6 +2,7 @@ use Rattle.std.proofs.Common.{Some, ap, refl}
 use Rattle.serde_json.specs.View.{view}
 use Rattle.x_frames.specs.Answers.{answered, failed}
 use Rattle.x_frames.specs.declared.answers.ErrorCode.TheVariants.{InternalError}
+use Rattle.x_lsp.proofs.AnsweringLemmas.{answered_by, refused_by, unanswered_by}
 use Rattle.x_lsp.proofs.server.Server.carry_out.Goals as goal
 
 pub returns-in-Ok-answer-clause-said : goal.returns-in-Ok-answer-clause-said
@@ -12,3 +13,15 @@ returns-in-Err-answer-clause-said c = failed InternalError refl c.refused.ensure
 
 pub returns-in-Err-clause-said : goal.returns-in-Err-clause-said
 returns-in-Err-clause-said c = failed c.in-Err.code c.in-Err.ensures.code c.refused-in-Err.ensures refl
+
+pub returns-in-Ok-answer-clause-asked : goal.returns-in-Ok-answer-clause-asked
+returns-in-Ok-answer-clause-asked c = λ question is.
+    answered_by (view c.args.id.now) question _ _ c.in-Ok.value _ (c.in-Ok.ensures.asked question is) (ap Some c.in-Ok-answer.ensures)
+
+pub returns-in-Err-answer-clause-asked : goal.returns-in-Err-answer-clause-asked
+returns-in-Err-answer-clause-asked c = λ question is.
+    unanswered_by (view c.args.id.now) question _ _ c.in-Ok.value _ (c.in-Ok.ensures.asked question is) c.refused.ensures
+
+pub returns-in-Err-clause-asked : goal.returns-in-Err-clause-asked
+returns-in-Err-clause-asked c = λ question is.
+    refused_by (view c.args.id.now) question _ _ c.in-Err.code _ (c.in-Err.ensures.asked question is) c.refused-in-Err.ensures

@@ -1,0 +1,121 @@
+-- What is expected at a place of a text, by the words before it.
+use Rattle.std.specs.Prelude.{◌&&◌, ℕ, ◌-◌, Bool, true, false, nat_le, nat_lt}
+use Rattle.std.specs.Prelude.{List, [], ◌∷◌, length, Option, None, Some, slice_get, if◌then◌else◌}
+use Rattle.x_lex.specs.Places.{Lexeme}
+use Rattle.x_lex.specs.declared.kind.Kind.{Kind}
+use Rattle.x_lex.specs.declared.kind.Kind.TheVariants as kinds
+use Rattle.x_lex.specs.declared.mark.Mark.{Mark}
+use Rattle.x_lex.specs.declared.mark.Mark.TheVariants as marks
+use Rattle.x_trees.specs.declared.names.declared_name.NameKind.{NameKind}
+use Rattle.x_trees.specs.declared.names.declared_name.NameKind.TheVariants as names
+use Rattle.x_lookups.specs.declared.surroundings.Expected.{Expected}
+use Rattle.x_lookups.specs.declared.surroundings.Expected.TheVariants.{Definition, «Type», EnumName}
+use Rattle.x_lookups.specs.declared.surroundings.Expected.TheVariants.{StructName, UnionName, Unsigned}
+use Rattle.x_lookups.specs.declared.surroundings.Expected.TheVariants.{Constant, Arm, Version, Nothing}
+use Rattle.x_lookups.specs.declared.surroundings.Last.{Last}
+use Rattle.x_lookups.specs.declared.surroundings.Last.TheVariants as last
+
+-- the keywords that can stand where this is expected
+abbrev pub keywords : Expected → List Mark
+keywords Definition =
+    marks.Const ∷ marks.Enum ∷ marks.Program ∷ marks.Struct ∷ marks.Typedef ∷ marks.Union ∷ []
+keywords «Type» =
+    marks.Bool ∷ marks.Double ∷ marks.Enum ∷ marks.Float ∷ marks.Hyper ∷ marks.Int ∷ marks.Long
+    ∷ marks.Opaque ∷ marks.Quadruple ∷ marks.String ∷ marks.Struct ∷ marks.Union ∷ marks.Unsigned
+    ∷ marks.Void ∷ []
+keywords Unsigned = marks.Hyper ∷ marks.Int ∷ marks.Long ∷ []
+keywords Arm = marks.Case ∷ marks.Default ∷ []
+keywords Version = marks.Version ∷ []
+keywords expected = []
+
+-- whether a name can stand there
+abbrev pub takes_names : Expected → Bool
+takes_names Constant = true
+takes_names «Type» = true
+takes_names EnumName = true
+takes_names StructName = true
+takes_names UnionName = true
+takes_names expected = false
+
+-- whether a name can that is declared as this
+abbrev pub takes : Expected → NameKind → Bool
+takes Constant names.Constant = true
+takes EnumName names.Enum = true
+takes StructName names.Struct = true
+takes UnionName names.Union = true
+takes «Type» names.Enum = true
+takes «Type» names.Struct = true
+takes «Type» names.Union = true
+takes «Type» names.Typedef = true
+takes expected kind = false
+
+-- a word is being typed at a place within it, or where it ends
+abbrev pub is_typed_as : Kind → Bool
+is_typed_as kinds.Keyword = true
+is_typed_as kinds.Name = true
+is_typed_as kinds.Number = true
+is_typed_as kinds.BadNumber = true
+is_typed_as kind = false
+
+abbrev pub is_typed : Lexeme → ℕ → Bool
+is_typed token at = is_typed_as token.kind && nat_le at token.end
+
+-- a place stands within a token of which no part is a word; one that goes to the end of its line, or of the
+-- text, holds its end too
+abbrev pub is_within_as : Kind → (at end : ℕ) → Bool
+is_within_as kinds.Comment at end = nat_lt at end
+is_within_as kinds.OpenComment at end = nat_le at end
+is_within_as kinds.Percent at end = nat_le at end
+is_within_as kinds.Marker at end = nat_le at end
+is_within_as kinds.Directive at end = nat_le at end
+is_within_as kind at end = false
+
+abbrev pub is_within : Lexeme → ℕ → Bool
+is_within token at = is_within_as token.kind at token.end
+
+-- ---- what stands around a place
+
+-- the last word before it ends a body, or arguments
+abbrev pub ends : Last → Bool
+ends (last.Mark marks.CloseBrace) = true
+ends (last.Mark marks.CloseParenthesis) = true
+ends word = false
+
+-- A word behind another. The number of a program, a version or a procedure is no constant's name, so its `=`
+-- counts as none.
+abbrev pub last_by : Option Mark → (before : Last) → Last
+last_by None before = last.Other
+last_by (Some marks.Equals) before = if ends before then last.Other else last.Mark marks.Equals
+last_by (Some mark) before = last.Mark mark
+
+-- the keyword of the body that is open and inmost
+abbrev pub inmost : List Mark → Option Mark
+inmost bodies = slice_get bodies (length bodies - 1)
+
+-- what is expected at the start of a part of a body with this keyword, or of none
+abbrev pub expected_in : Option Mark → Expected
+expected_in None = Definition
+expected_in (Some marks.Enum) = Nothing
+expected_in (Some marks.Switch) = Arm
+expected_in (Some marks.Program) = Version
+expected_in (Some mark) = «Type»
+
+-- what is expected behind a word, within so many parentheses in that body
+abbrev pub expected_behind : Last → (parentheses : ℕ) → (body : Option Mark) → Expected
+expected_behind last.Start parentheses body = Definition
+expected_behind last.Other parentheses body = Nothing
+expected_behind (last.Mark marks.OpenBracket) parentheses body = Constant
+expected_behind (last.Mark marks.Less) parentheses body = Constant
+expected_behind (last.Mark marks.Equals) parentheses body = Constant
+expected_behind (last.Mark marks.Case) parentheses body = Constant
+expected_behind (last.Mark marks.OpenParenthesis) parentheses body = «Type»
+expected_behind (last.Mark marks.Typedef) parentheses body = «Type»
+expected_behind (last.Mark marks.Colon) parentheses body = «Type»
+expected_behind (last.Mark marks.Comma) parentheses body = if nat_lt 0 parentheses then «Type» else Nothing
+expected_behind (last.Mark marks.Enum) parentheses body = EnumName
+expected_behind (last.Mark marks.Struct) parentheses body = StructName
+expected_behind (last.Mark marks.Union) parentheses body = UnionName
+expected_behind (last.Mark marks.Unsigned) parentheses body = Unsigned
+expected_behind (last.Mark marks.OpenBrace) parentheses body = expected_in body
+expected_behind (last.Mark marks.Semicolon) parentheses body = expected_in body
+expected_behind (last.Mark mark) parentheses body = Nothing

@@ -1,0 +1,128 @@
+-- What is said to questions.
+use Rattle.std.proofs.Common.{◌≡◌, ◌++◌, ℕ, Bool, List, Option, None, Some, Result, Ok, Err, true, ap, inl, inr, refl, subst, sym}
+use Rattle.std.proofs.Math.Logic.{∥∥₁_map}
+use Rattle.std.specs.Prelude.{IfErr, IfOk, IfSome, if◌then◌else◌, string_bytes}
+use Rattle.std.specs.Str.Lossy.{utf8_lossy}
+use Rattle.serde_json.specs.Data.{Data, string}
+use Rattle.serde_json.specs.View.{view}
+use Rattle.serde_json.specs.Written.{compact_text}
+use Rattle.serde_json.specs.declared.value.Value.{Value}
+use Rattle.x_session.specs.Session.{Compiles}
+use Rattle.x_args.specs.BaseNames.{base_of}
+use Rattle.x_prelude.specs.Before.{IsBefore}
+use Rattle.x_prelude.specs.declared.followed.FollowedText.{FollowedText}
+use Rattle.x_frames.specs.Answers.{IsRefused, answer_data}
+use Rattle.x_frames.specs.Lives.{is_of_question, is_of_request}
+use Rattle.x_frames.specs.declared.answers.ErrorCode.{ErrorCode}
+use Rattle.x_frames.specs.declared.answers.ErrorCode.TheVariants as codes
+use Rattle.x_frames.specs.declared.method.DocumentQuestion.{DocumentQuestion}
+use Rattle.x_frames.specs.declared.method.DocumentQuestion.TheVariants.{Symbols, Folds, Tokens, Text}
+use Rattle.x_frames.specs.declared.method.Question.{Question}
+use Rattle.x_frames.specs.declared.method.Question.TheVariants.{OfDocument}
+use Rattle.x_contents.specs.DocumentTexts.{told_text}
+use Rattle.x_contents.specs.Wanting.{wanted_in}
+use Rattle.x_contents.specs.declared.wanted.Wanted.{Wanted}
+use Rattle.x_documents.specs.Compiled.{IsCompiled}
+use Rattle.x_documents.specs.DocumentNames.{name_of}
+use Rattle.x_documents.specs.Documents.{Document}
+use Rattle.x_documents.specs.Grounds.{constants_of}
+use Rattle.x_documents.specs.Views.{view_document}
+use Rattle.x_documents.specs.declared.document.OpenDocument.{OpenDocument}
+use Rattle.x_lsp.specs.Answering.{FindsAt, FindsOf, IsAnsweredAt, IsAnsweredBy, IsTextOf}
+
+pub of_request : (code : ErrorCode) → is_of_question code ≡ true → is_of_request code ≡ true
+of_request codes.ParseError is = is
+of_request codes.InvalidRequest is = is
+of_request codes.MethodNotFound is = is
+of_request codes.InvalidParams is = is
+of_request codes.InternalError is = is
+of_request codes.RequestFailed is = is
+of_request (codes.NameUnparsed line) is = is
+of_request codes.NameLifted is = is
+of_request codes.ContentModified is = refl
+of_request codes.NotInitialized is = is
+
+abbrev code_of : {V : Type 0} → Result V ErrorCode → ErrorCode
+code_of (Ok v) = codes.InternalError
+code_of (Err code) = code
+
+-- ---- from what is found to what is said
+
+answered_at : (id : Data) (question : Question) (d : Document) (text : Option (List ℕ)) (params : Option Data) (v : Value) (said : Option (List ℕ))
+    → FindsAt question d text params (Ok v) → said ≡ Some (compact_text (answer_data id (view v))) → IsAnsweredAt id question d text params said
+answered_at id question d None params v said finds is = absurd (cc)
+answered_at id question d (Some shown) params v said finds is = inl (view v, is, finds)
+
+pub answered_by : (id : Data) (question : Question) (found : Option Document) (params : Option Data) (v : Value) (said : Option (List ℕ))
+    → FindsOf question found params (Ok v) → said ≡ Some (compact_text (answer_data id (view v))) → IsAnsweredBy id question found params said
+answered_by id question None params v said finds is = absurd (cc)
+answered_by id question (Some d) params v said finds is = answered_at id question d d.text params v said finds is
+
+unanswered_at : (id : Data) (question : Question) (d : Document) (text : Option (List ℕ)) (params : Option Data) (v : Value) (said : Option (List ℕ))
+    → FindsAt question d text params (Ok v) → IsRefused id codes.InternalError said → IsAnsweredAt id question d text params said
+unanswered_at id question d None params v said finds refused = absurd (cc)
+unanswered_at id question d (Some shown) params v said finds refused = inr (codes.InternalError, refl, refused)
+
+-- where there was no memory for the answer
+pub unanswered_by : (id : Data) (question : Question) (found : Option Document) (params : Option Data) (v : Value) (said : Option (List ℕ))
+    → FindsOf question found params (Ok v) → IsRefused id codes.InternalError said → IsAnsweredBy id question found params said
+unanswered_by id question None params v said finds refused = absurd (cc)
+unanswered_by id question (Some d) params v said finds refused = unanswered_at id question d d.text params v said finds refused
+
+refused_at : (id : Data) (question : Question) (d : Document) (text : Option (List ℕ)) (params : Option Data) (code : ErrorCode) (said : Option (List ℕ))
+    → FindsAt question d text params (Err code) → IsRefused id code said → IsAnsweredAt id question d text params said
+refused_at id question d None params code said finds refused = subst (λ c. IsRefused id c said) (ap code_of finds) refused
+refused_at id question d (Some shown) params code said finds refused = inr (code, finds, refused)
+
+pub refused_by : (id : Data) (question : Question) (found : Option Document) (params : Option Data) (code : ErrorCode) (said : Option (List ℕ))
+    → FindsOf question found params (Err code) → IsRefused id code said → IsAnsweredBy id question found params said
+refused_by id question None params code said finds refused = subst (λ c. IsRefused id c said) (ap code_of finds) refused
+refused_by id question (Some d) params code said finds refused = refused_at id question d d.text params code said finds refused
+
+-- ---- what is found of an open document that is in step
+
+text_is : (d : OpenDocument) (w : Wanted) (result : Data) → IsCompiled d.files.items d.blanks d.shown d.compiled
+    → Compiles d.compiled.session.known d.compiled.session.text (λ items. result ≡ string (utf8_lossy (told_text w d.compiled.session.base d.compiled.session.text items)))
+    → IsTextOf (view_document d) d.shown w result
+text_is d w result is told =
+    let known = d.compiled.session.known in
+    let text = d.compiled.session.text in
+    let from = d.compiled.from_c in
+    let front = d.files.items ++ constants_of d.blanks d.shown in
+    ∥∥₁_map is.before (λ before. (
+      known,
+      subst (λ t. IsBefore front from t known) is.text_is (subst (λ f. IsBefore f from text known) is.files_are before),
+      subst (λ t. Compiles known t (λ items. result ≡ string (utf8_lossy (told_text w (base_of (name_of (string_bytes d.uri))) t items)))) is.text_is
+          (subst (λ b. Compiles known text (λ items. result ≡ string (utf8_lossy (told_text w b text items)))) d.based told),
+    ))
+
+text_if : (d : OpenDocument) (wanted : Option Wanted) (v : Value) → IsCompiled d.files.items d.blanks d.shown d.compiled
+    → IfSome wanted (λ w. IfOk {E = ErrorCode} (Ok v) (λ v. Compiles d.compiled.session.known d.compiled.session.text (λ items. view v ≡ string (utf8_lossy (told_text w d.compiled.session.base d.compiled.session.text items)))))
+    → IfSome wanted (λ w. IsTextOf (view_document d) d.shown w (view v))
+text_if d None v is told = tt
+text_if d (Some w) v is told = text_is d w (view v) is told
+
+-- what is found of a whole document
+pub document_found : (d : OpenDocument) (q : DocumentQuestion) (params : Option Data) (result : Result Value ErrorCode) → IsCompiled d.files.items d.blanks d.shown d.compiled
+    → IfErr result (λ code. is_of_question code ≡ true)
+    → (q ≡ Text → IfSome (wanted_in params) (λ w. IfOk result (λ v. Compiles d.compiled.session.known d.compiled.session.text (λ items. view v
+    ≡ string (utf8_lossy (told_text w d.compiled.session.base d.compiled.session.text items))))))
+    → FindsAt (OfDocument q) (view_document d) (Some d.shown) params result
+document_found d q params (Err code) is code_is told = code_is
+document_found d Symbols params (Ok v) is code_is told = tt
+document_found d Folds params (Ok v) is code_is told = tt
+document_found d Tokens params (Ok v) is code_is told = tt
+document_found d Text params (Ok v) is code_is told = text_if d (wanted_in params) v is (told refl)
+
+-- the same where it is not yet known that the document is in step
+pub in_step_found : (d : OpenDocument) (question : Question) (q : DocumentQuestion) (params : Option Data) (text : FollowedText) (result : Result Value ErrorCode)
+    → d.in_step ≡ true → question ≡ OfDocument q → text ≡ d.compiled → IfErr result (λ code. is_of_question code ≡ true)
+    → (q ≡ Text → IfSome (wanted_in params) (λ w. IfOk result (λ v. Compiles text.session.known text.session.text (λ items. view v
+    ≡ string (utf8_lossy (told_text w text.session.base text.session.text items))))))
+    → FindsAt question (view_document d) (if d.in_step then Some d.shown else None) params result
+in_step_found d question q params text result step is same code_is told =
+    subst (λ (u : Question). FindsAt u (view_document d) (if d.in_step then Some d.shown else None) params result) (sym is)
+    (subst (λ (b : Bool). FindsAt (OfDocument q) (view_document d) (if b then Some d.shown else None) params result) (sym step)
+    (document_found d q params result (d.followed step) code_is
+    (subst (λ (t : FollowedText). q ≡ Text → IfSome (wanted_in params) (λ w. IfOk result (λ v. Compiles t.session.known t.session.text (λ items. view v
+    ≡ string (utf8_lossy (told_text w t.session.base t.session.text items)))))) same told)))

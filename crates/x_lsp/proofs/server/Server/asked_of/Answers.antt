@@ -1,0 +1,10 @@
+use Rattle.std.proofs.Common.{◌≡◌, ◌∙◌, sym, true}
+use Rattle.x_lsp.proofs.AnsweringLemmas.{in_step_found}
+use Rattle.x_lsp.proofs.server.Server.asked_of.Goals as goal
+
+pub returns-in-OfDocument-clause-finds : goal.returns-in-OfDocument-clause-finds
+returns-in-OfDocument-clause-finds c =
+    let d = c.args.document.now in
+    let step : d.in_step ≡ true = sym c.is_in_step.ensures ∙ c.if-not-is_in_step.false in
+    let asked = c.answer_about_document.ensures in
+    in_step_found d c.args.question c.in-OfDocument.question _ c.compiled.result.now c.answer_about_document.result step c.in-OfDocument.is c.compiled.ensures asked.code asked.text
