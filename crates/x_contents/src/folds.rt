@@ -1,10 +1,15 @@
 //! Which lines of a document can be folded away.
 
-ghost use Rattle.std.specs.Prelude.{◌≡◌, ◌++◌, None, false, IfOk, OnOk};
-ghost use Rattle.serde_json.specs.View.{view};
+ghost use Rattle.std.specs.Prelude.{◌≡◌, false, IfOk, OnOk};
+ghost use Rattle.serde_json.specs.Data.{array};
+ghost use Rattle.serde_json.specs.View.{items_of, view};
 ghost use Rattle.serde_json.specs.Written.{has_float};
-ghost use Rattle.x_frames.specs.Plain.{listed};
-ghost use Rattle.x_contents.specs.Folds.{fold_data, folds_if, folds_of, lines_inside};
+ghost use Rattle.x_lex.specs.Places.{lexeme};
+ghost use Rattle.x_compile.specs.Compile.{tokens_of};
+ghost use Rattle.x_session.specs.Session.{Compiles};
+ghost use Rattle.x_contents.specs.Folds.{ended, fold_data, folds_in, lines_inside, passed_on, read};
+ghost use Rattle.x_contents.specs.Folds.{with_fold, with_mark};
+ghost use Rattle.x_contents.specs.Reading.{folding_of};
 
 use serde_json::{Value, json};
 use std::alloc::Global;
@@ -16,7 +21,9 @@ use x_text::{NoMemory, Source};
 
 /// A `FoldingRange` of each part of a document that has more than one line.
 pub(crate) fn folds(alloc: Global, shown: &Source, session: &Session) -> Result<Value, NoMemory>
-    ensures { IfOk result (λ v. has_float (view v) ≡ false) }
+    ensures plain { IfOk result (λ v. has_float (view v) ≡ false) }
+    ensures folds { IfOk result (λ v. Compiles session.now.known session.now.text
+        (λ items. view v ≡ array (items_of (folds_in shown.now (tokens_of items))))) }
 {
     let mut reader = FoldReader {
         alloc,
@@ -52,7 +59,11 @@ struct FoldReader<'s> {
 }
 
 impl FoldReader<'_> {
-    fn read(&mut self, token: &Token) -> Result<(), NoMemory> {
+    fn read(&mut self, token: &Token) -> Result<(), NoMemory>
+        ensures folds { OnOk result (folding_of self.new
+            ≡ read self.old.places.text (folding_of self.old) (lexeme token.now)) }
+        ensures places { self.new.places ≡ self.old.places }
+    {
         let lines = Lines {
             first: self.places.position(token.start).line,
             last: self.places.position(token.end).line,
@@ -70,7 +81,11 @@ impl FoldReader<'_> {
     }
 
     /// Takes note of a line that begins with `%`.
-    fn pass_on(&mut self, lines: Lines) -> Result<(), NoMemory> {
+    fn pass_on(&mut self, lines: Lines) -> Result<(), NoMemory>
+        ensures folds { OnOk result (folding_of self.new
+            ≡ passed_on (folding_of self.old) self.old.passed_on lines) }
+        ensures places { self.new.places ≡ self.old.places }
+    {
         match self.passed_on {
             Some(before) if before.last.saturating_add(1) == lines.first => {
                 self.passed_on = Some(Lines {
@@ -88,9 +103,8 @@ impl FoldReader<'_> {
 
     /// No further line goes on with those that begin with `%`.
     fn end_passed_on(&mut self) -> Result<(), NoMemory>
-        ensures folds { OnOk result (listed self.new.folds
-            ≡ listed self.old.folds ++ folds_if self.old.passed_on) }
-        ensures passed_on { OnOk result (self.new.passed_on ≡ None) }
+        ensures folds { OnOk result (folding_of self.new ≡ ended (folding_of self.old)) }
+        ensures places { self.new.places ≡ self.old.places }
     {
         if let Some(lines) = self.passed_on {
             self.add(lines, false)?;
@@ -99,7 +113,10 @@ impl FoldReader<'_> {
         Ok(())
     }
 
-    fn read_brace(&mut self, line: usize, mark: Option<Mark>) -> Result<(), NoMemory> {
+    fn read_brace(&mut self, line: usize, mark: Option<Mark>) -> Result<(), NoMemory>
+        ensures folds { OnOk result (folding_of self.new ≡ with_mark (folding_of self.old) line mark) }
+        ensures places { self.new.places ≡ self.old.places }
+    {
         match mark {
             Some(Mark::OpenBrace) => self.braces.push(line)?,
             Some(Mark::CloseBrace) => {
@@ -114,9 +131,8 @@ impl FoldReader<'_> {
 
     /// Adds a fold of lines, if there is more than one.
     fn add(&mut self, lines: Lines, comment: bool) -> Result<(), NoMemory>
-        ensures folds { OnOk result (listed self.new.folds
-            ≡ listed self.old.folds ++ folds_of lines comment) }
-        ensures passed_on { self.new.passed_on ≡ self.old.passed_on }
+        ensures folds { OnOk result (folding_of self.new ≡ with_fold (folding_of self.old) lines comment) }
+        ensures places { self.new.places ≡ self.old.places }
     {
         if lines.first < lines.last {
             let fold = fold(self.alloc, lines, comment)?;

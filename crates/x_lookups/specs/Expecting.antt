@@ -1,11 +1,13 @@
 -- What is expected at a place of a text, by the words before it.
-use Rattle.std.specs.Prelude.{◌&&◌, ℕ, ◌-◌, Bool, true, false, nat_le, nat_lt}
-use Rattle.std.specs.Prelude.{List, [], ◌∷◌, length, Option, None, Some, slice_get, if◌then◌else◌}
+use Rattle.std.specs.Prelude.{◌&&◌, ◌||◌, ℕ, ◌+◌, ◌-◌, ◌^◌, min, Bool, true, false, nat_le, nat_lt}
+use Rattle.std.specs.Prelude.{List, [], ◌∷◌, ◌++◌, length, take, Option, None, Some, slice_get, if◌then◌else◌}
+use Rattle.x_lex.specs.Marks.{mark_of}
 use Rattle.x_lex.specs.Places.{Lexeme}
 use Rattle.x_lex.specs.declared.kind.Kind.{Kind}
 use Rattle.x_lex.specs.declared.kind.Kind.TheVariants as kinds
 use Rattle.x_lex.specs.declared.mark.Mark.{Mark}
 use Rattle.x_lex.specs.declared.mark.Mark.TheVariants as marks
+use Rattle.x_trees.specs.Words.{is_significant}
 use Rattle.x_trees.specs.declared.names.declared_name.NameKind.{NameKind}
 use Rattle.x_trees.specs.declared.names.declared_name.NameKind.TheVariants as names
 use Rattle.x_lookups.specs.declared.surroundings.Expected.{Expected}
@@ -119,3 +121,50 @@ expected_behind (last.Mark marks.Unsigned) parentheses body = Unsigned
 expected_behind (last.Mark marks.OpenBrace) parentheses body = expected_in body
 expected_behind (last.Mark marks.Semicolon) parentheses body = expected_in body
 expected_behind (last.Mark mark) parentheses body = Nothing
+
+-- The keywords of the bodies that are open, from the outermost on, with `switch` for that of a union; the last
+-- keyword that a body may stand behind; how many parentheses are open; and the last word.
+pub record Around : Type 0 where
+  pub bodies : List Mark
+  pub head : Option Mark
+  pub parentheses : ℕ
+  pub last : Last
+
+abbrev pub at_start : Around
+at_start = record { bodies = []; head = None; parentheses = 0; last = last.Start }
+
+-- the keyword of a body that opens behind a word
+abbrev pub body_by : (before : Last) → (head : Option Mark) → Mark
+body_by (last.Mark marks.CloseParenthesis) head = marks.Switch
+body_by before None = marks.Struct
+body_by before (Some head) = head
+
+-- what a word does to what stands around
+abbrev pub marked : Around → (before now : Last) → Around
+marked a before (last.Mark marks.OpenParenthesis) =
+    record a { parentheses = min (a.parentheses + 1) (2 ^ 64 - 1) }
+marked a before (last.Mark marks.CloseParenthesis) = record a { parentheses = a.parentheses - 1 }
+marked a before (last.Mark marks.OpenBrace) = record a { bodies = a.bodies ++ body_by before a.head ∷ [] }
+marked a before (last.Mark marks.CloseBrace) = record a { bodies = take (length a.bodies - 1) a.bodies }
+marked a before (last.Mark marks.Enum) = record a { head = Some marks.Enum }
+marked a before (last.Mark marks.Struct) = record a { head = Some marks.Struct }
+marked a before (last.Mark marks.Program) = record a { head = Some marks.Program }
+marked a before (last.Mark marks.Version) = record a { head = Some marks.Version }
+marked a before now = a
+
+abbrev pub passed : Around → (word : List ℕ) → Around
+passed a word = let now = last_by (mark_of word) a.last in marked (record a { last = now }) a.last now
+
+abbrev pub passed_token : Around → Lexeme → Around
+passed_token a token = if is_significant token.kind then passed a token.text else a
+
+-- what is expected at a place, by the words that end before it; the word that is being typed there is none
+abbrev pub expected_from : Around → (at : ℕ) → List Lexeme → Expected
+expected_from a at [] = expected_behind a.last a.parentheses (inmost a.bodies)
+expected_from a at (t ∷ ts) =
+    if nat_le at t.start || is_typed t at then expected_behind a.last a.parentheses (inmost a.bodies)
+    else if is_within t at then Nothing
+    else expected_from (passed_token a t) at ts
+
+abbrev pub expected_at : (at : ℕ) → List Lexeme → Expected
+expected_at at tokens = expected_from at_start at tokens

@@ -3,4 +3,5 @@ pub mod NamePlaces
 pub mod Parts
 pub mod Sizes
 pub mod Sought
+pub mod Surrounding
 pub mod Unparsed

@@ -1,7 +1,13 @@
 -- The parts of a definition that have a name: what they are, and how their words are read.
-use Rattle.std.specs.Prelude.{ℕ, false, List, [], ◌∷◌, Option, None, Some, is_some, if◌then◌else◌}
+use Rattle.std.specs.Prelude.{ℕ, suc, ◌-◌, false, List, [], ◌∷◌, ◌++◌, length, take, slice_get}
+use Rattle.std.specs.Prelude.{Option, None, Some, is_some, option_and_then, if◌then◌else◌}
+use Rattle.x_lex.specs.Marks.{mark_of}
+use Rattle.x_lex.specs.Places.{Lexeme}
+use Rattle.x_lex.specs.declared.kind.Kind.{Kind}
+use Rattle.x_lex.specs.declared.kind.Kind.TheVariants as kinds
 use Rattle.x_lex.specs.declared.mark.Mark.{Mark}
 use Rattle.x_lex.specs.declared.mark.Mark.TheVariants as marks
+use Rattle.x_trees.specs.Words.{is_significant}
 use Rattle.x_lookups.specs.declared.parts.Begun.{Begun}
 use Rattle.x_lookups.specs.declared.parts.Body.{Body}
 use Rattle.x_lookups.specs.declared.parts.Part.{Part}
@@ -87,3 +93,87 @@ part_with within depth None first name last = []
 
 abbrev pub part_of : Body → (depth last : ℕ) → List Part
 part_of body depth last = part_with body.within depth body.kind body.begun.first body.begun.name last
+
+-- ---- a definition while its words are read
+
+-- the parts that have ended, the bodies around the one that is read, that body, and the word before, if it is
+-- a mark, with its index
+pub record Reading : Type 0 where
+  pub parts : List Part
+  pub outer : List Body
+  pub body : Body
+  pub before : Option Mark
+  pub last : ℕ
+
+abbrev pub at_first : (kind : Option PartKind) → Reading
+at_first kind =
+    record { parts = []; outer = []; body = body_of kind None; before = None; last = 0 }
+
+-- a part ends at this word
+abbrev pub ended : Reading → (last : ℕ) → Reading
+ended r last = record r {
+  parts = r.parts ++ part_of r.body (length r.outer) last;
+  body = record r.body { begun = nothing };
+}
+
+-- the body of a keyword begins, or arguments
+abbrev pub opened : Reading → Option Mark → Reading
+opened r within = record r {
+  outer = r.outer ++ record r.body { begun = settled r.body.begun } ∷ [];
+  body = body_of (kind_within r.body.kind within) within;
+}
+
+-- a body ends
+abbrev pub closed_to : Reading → Option Body → Reading
+closed_to r None = r
+closed_to r (Some body) = record r { outer = take (length r.outer - 1) r.outer; body = body }
+
+abbrev pub closed : Reading → Reading
+closed r = closed_to r (slice_get r.outer (length r.outer - 1))
+
+-- behind `switch` stands the discriminant of a union
+abbrev pub in_parentheses : (before : Option Mark) → Option Mark
+in_parentheses (Some marks.Switch) = Some marks.Union
+in_parentheses before = None
+
+abbrev pub with_begun : Reading → Begun → Reading
+with_begun r begun = record r { body = record r.body { begun = begun } }
+
+abbrev pub read_mark : Reading → (index : ℕ) → Mark → Reading
+read_mark r index marks.OpenBrace = opened r r.body.begun.inside
+read_mark r index marks.OpenParenthesis = opened r (in_parentheses r.before)
+read_mark r index marks.CloseBrace = closed (ended r r.last)
+read_mark r index marks.CloseParenthesis = closed (ended r r.last)
+read_mark r index marks.Comma = ended r r.last
+read_mark r index marks.Semicolon = ended r index
+read_mark r index mark = with_begun r (with_mark r.body.begun index mark)
+
+abbrev pub read_other : Reading → (index : ℕ) → Kind → Reading
+read_other r index kinds.Name = with_begun r (with_name r.body.begun index)
+read_other r index kind = with_begun r (begun r.body.begun index)
+
+abbrev pub read_as : Reading → (index : ℕ) → Kind → Option Mark → Reading
+read_as r index kind None = read_other r index kind
+read_as r index kind (Some mark) = read_mark r index mark
+
+-- a word is read
+abbrev pub read : Reading → (index : ℕ) → Lexeme → Reading
+read r index token =
+    record (read_as r index token.kind (mark_of token.text)) { before = mark_of token.text; last = index }
+
+abbrev pub read_token : Reading → (index : ℕ) → Lexeme → Reading
+read_token r index token = if is_significant token.kind then read r index token else r
+
+-- the parts of a definition with these tokens, the first of which has this index
+abbrev pub parts_from : Reading → (index : ℕ) → List Lexeme → List Part
+parts_from r index [] = r.parts
+parts_from r index (t ∷ ts) = parts_from (read_token r index t) (suc index) ts
+
+-- what the definition with these tokens is
+abbrev pub kind_of : List Lexeme → Option PartKind
+kind_of [] = None
+kind_of (t ∷ ts) =
+    if is_significant t.kind then option_and_then defined_by (mark_of t.text) else kind_of ts
+
+abbrev pub parts_of : List Lexeme → List Part
+parts_of tokens = parts_from (at_first (kind_of tokens)) 0 tokens

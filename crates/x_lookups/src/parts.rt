@@ -1,8 +1,11 @@
 //! The parts of a definition that have a name.
 
-ghost use Rattle.std.specs.Prelude.{◌≡◌, ◌++◌, [], ◌∷◌, OnOk, length};
-ghost use Rattle.x_lookups.specs.Parts.{begun, body_of, defined_by, inside, kind_within, nothing, part_of};
-ghost use Rattle.x_lookups.specs.Parts.{settled, with_mark, with_name};
+ghost use Rattle.std.specs.Prelude.{◌≡◌, IfOk, OnOk, map};
+ghost use Rattle.x_lex.specs.Places.{lexeme};
+ghost use Rattle.x_lookups.specs.Parts.{begun, body_of, closed, defined_by, ended, in_parentheses, inside};
+ghost use Rattle.x_lookups.specs.Parts.{kind_of, opened, parts_of, read, read_mark, settled, with_mark};
+ghost use Rattle.x_lookups.specs.Parts.{with_name};
+ghost use Rattle.x_lookups.specs.Surrounding.{reading_of};
 
 use std::alloc::Global;
 use x_item::is_significant;
@@ -87,7 +90,9 @@ pub struct Part {
 /// # Errors
 ///
 /// [`NoMemory`] where a list could not grow.
-pub fn parts_of(alloc: Global, tokens: &[Token]) -> Result<Vec<Part>, NoMemory> {
+pub fn parts_of(alloc: Global, tokens: &[Token]) -> Result<Vec<Part>, NoMemory>
+    ensures { IfOk result (λ parts. parts.items ≡ parts_of (map lexeme tokens.now)) }
+{
     let mut reader = PartReader {
         parts: Vec::new(alloc),
         outer: Vec::new(alloc),
@@ -95,16 +100,18 @@ pub fn parts_of(alloc: Global, tokens: &[Token]) -> Result<Vec<Part>, NoMemory> 
         before: None,
         last: 0,
     };
-    for (index, token) in tokens.iter().enumerate() {
-        if is_significant(token.kind) {
-            reader.read(index, token)?;
+    for index in 0..tokens.len() {
+        if is_significant(tokens[index].kind) {
+            reader.read(index, &tokens[index])?;
         }
     }
     Ok(reader.parts)
 }
 
 /// What the definition with these tokens is.
-fn definition_kind(tokens: &[Token]) -> Option<PartKind> {
+fn definition_kind(tokens: &[Token]) -> Option<PartKind>
+    ensures { result ≡ kind_of (map lexeme tokens.now) }
+{
     for token in tokens {
         if is_significant(token.kind) {
             return PartKind::of_definition(Mark::of(token.text)?);
@@ -199,6 +206,16 @@ impl Body {
     }
 }
 
+/// The keyword of what stands in parentheses behind a word: behind `switch` that is a union's discriminant.
+fn in_parentheses(before: Option<Mark>) -> Option<Mark>
+    ensures { result ≡ in_parentheses before }
+{
+    match before {
+        Some(Mark::Switch) => Some(Mark::Union),
+        _ => None,
+    }
+}
+
 /// Reads the words of a definition.
 #[derive(Drop)]
 struct PartReader {
@@ -213,7 +230,9 @@ struct PartReader {
 
 impl PartReader {
     /// Reads a word.
-    fn read(&mut self, index: usize, token: &Token) -> Result<(), NoMemory> {
+    fn read(&mut self, index: usize, token: &Token) -> Result<(), NoMemory>
+        ensures { OnOk result (reading_of self.new ≡ read (reading_of self.old) index (lexeme token.now)) }
+    {
         let mark = Mark::of(token.text);
         match mark {
             Some(mark) => self.read_mark(index, mark)?,
@@ -225,13 +244,12 @@ impl PartReader {
         Ok(())
     }
 
-    fn read_mark(&mut self, index: usize, mark: Mark) -> Result<(), NoMemory> {
+    fn read_mark(&mut self, index: usize, mark: Mark) -> Result<(), NoMemory>
+        ensures { OnOk result (reading_of self.new ≡ read_mark (reading_of self.old) index mark) }
+    {
         match mark {
             Mark::OpenBrace => self.open(self.body.begun.inside),
-            Mark::OpenParenthesis => match self.before {
-                Some(Mark::Switch) => self.open(Some(Mark::Union)),
-                _ => self.open(None),
-            },
+            Mark::OpenParenthesis => self.open(in_parentheses(self.before)),
             Mark::CloseBrace | Mark::CloseParenthesis => {
                 self.finish(self.last)?;
                 self.close();
@@ -248,10 +266,7 @@ impl PartReader {
 
     /// Begins the body of a keyword, or of arguments.
     fn open(&mut self, within: Option<Mark>) -> Result<(), NoMemory>
-        ensures outer { OnOk result (self.new.outer.items ≡ self.old.outer.items
-            ++ record self.old.body { begun = settled self.old.body.begun } ∷ []) }
-        ensures body { OnOk result (self.new.body ≡ body_of (kind_within self.old.body.kind within) within) }
-        ensures parts { self.new.parts ≡ self.old.parts }
+        ensures { OnOk result (reading_of self.new ≡ opened (reading_of self.old) within) }
     {
         self.body.begun.settle();
         let kind = match (self.body.kind, within) {
@@ -265,10 +280,7 @@ impl PartReader {
 
     /// Ends a part at its last word.
     fn finish(&mut self, last: usize) -> Result<(), NoMemory>
-        ensures parts { OnOk result (self.new.parts.items ≡ self.old.parts.items
-            ++ part_of self.old.body (length self.old.outer.items) last) }
-        ensures body { self.new.body ≡ record self.old.body { begun = nothing } }
-        ensures outer { self.new.outer ≡ self.old.outer }
+        ensures { OnOk result (reading_of self.new ≡ ended (reading_of self.old) last) }
     {
         let begun = self.body.begun;
         self.body.begun = NOTHING;
@@ -290,7 +302,9 @@ impl PartReader {
     }
 
     /// Ends a body.
-    fn close(&mut self) {
+    fn close(&mut self)
+        ensures { reading_of self.new ≡ closed (reading_of self.old) }
+    {
         if let Some(body) = self.outer.pop() {
             self.body = body;
         }

@@ -1,11 +1,14 @@
 //! What is expected at a place of a text, by the words before it.
 
-ghost use Rattle.std.specs.Prelude.{◌≡◌, []};
-ghost use Rattle.x_lookups.specs.declared.surroundings.Last.TheVariants.{Start};
+ghost use Rattle.std.specs.Prelude.{◌≡◌, IfOk, OnOk};
 ghost use Rattle.x_lex.specs.Marks.{mark_of};
 ghost use Rattle.x_lex.specs.Places.{lexeme};
+ghost use Rattle.x_compile.specs.Compile.{tokens_of};
+ghost use Rattle.x_session.specs.Session.{Compiles};
 ghost use Rattle.x_lookups.specs.Expecting.{ends, expected_behind, expected_in, inmost, is_typed, is_within};
-ghost use Rattle.x_lookups.specs.Expecting.{keywords, last_by, takes, takes_names};
+ghost use Rattle.x_lookups.specs.Expecting.{at_start, body_by, expected_at, keywords, last_by, passed};
+ghost use Rattle.x_lookups.specs.Expecting.{takes, takes_names};
+ghost use Rattle.x_lookups.specs.Surrounding.{around_of};
 
 use std::alloc::Global;
 use x_item::{NameKind, is_significant};
@@ -113,7 +116,10 @@ impl Expected {
 /// # Errors
 ///
 /// [`NoMemory`] where a list could not grow.
-pub fn expected_at(alloc: Global, session: &Session, at: usize) -> Result<Expected, NoMemory> {
+pub fn expected_at(alloc: Global, session: &Session, at: usize) -> Result<Expected, NoMemory>
+    ensures { IfOk result (λ expected. Compiles session.now.known session.now.text
+        (λ items. expected ≡ expected_at at (tokens_of items))) }
+{
     let mut around = Surroundings::new(alloc);
     for token in session.tokens() {
         if token.start >= at || is_typed(&token, at) {
@@ -123,7 +129,7 @@ pub fn expected_at(alloc: Global, session: &Session, at: usize) -> Result<Expect
             return Ok(Expected::Nothing);
         }
         if is_significant(token.kind) {
-            around.pass(&token)?;
+            around.pass(token.text)?;
         }
     }
     Ok(around.expected())
@@ -194,12 +200,21 @@ impl Last {
     }
 }
 
+/// The keyword of a body that opens behind a word, by the last keyword that a body may stand behind.
+fn body_by(before: Last, head: Option<Mark>) -> Mark
+    ensures { result ≡ body_by before head }
+{
+    match (before, head) {
+        (Last::Mark(Mark::CloseParenthesis), _) => Mark::Switch,
+        (_, None) => Mark::Struct,
+        (_, Some(head)) => head,
+    }
+}
+
 impl Surroundings {
     /// Those of the start of a text.
     fn new(alloc: Global) -> Surroundings
-        ensures bodies { result.bodies.items ≡ [] }
-        ensures parentheses { result.parentheses ≡ 0 }
-        ensures last { result.last ≡ Start }
+        ensures { around_of result ≡ at_start }
     {
         Surroundings {
             bodies: Vec::new(alloc),
@@ -210,19 +225,18 @@ impl Surroundings {
     }
 
     /// Goes over a word.
-    fn pass(&mut self, token: &Token) -> Result<(), NoMemory> {
+    fn pass(&mut self, word: &[u8]) -> Result<(), NoMemory>
+        ensures { OnOk result (around_of self.new ≡ passed (around_of self.old) word.now) }
+    {
         let before = self.last;
-        self.last = Last::of(token.text, before);
+        self.last = Last::of(word, before);
         let Last::Mark(mark) = self.last else {
             return Ok(());
         };
         match mark {
             Mark::OpenParenthesis => self.parentheses = self.parentheses.saturating_add(1),
             Mark::CloseParenthesis => self.parentheses = self.parentheses.saturating_sub(1),
-            Mark::OpenBrace if before == Last::Mark(Mark::CloseParenthesis) => {
-                self.bodies.push(Mark::Switch)?;
-            }
-            Mark::OpenBrace => self.bodies.push(self.head.unwrap_or(Mark::Struct))?,
+            Mark::OpenBrace => self.bodies.push(body_by(before, self.head))?,
             Mark::CloseBrace => {
                 self.bodies.pop();
             }

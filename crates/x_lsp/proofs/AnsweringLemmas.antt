@@ -3,8 +3,8 @@ use Rattle.std.proofs.Common.{◌≡◌, ◌++◌, ℕ, Bool, List, Option, None
 use Rattle.std.proofs.Math.Logic.{∥∥₁_map}
 use Rattle.std.specs.Prelude.{IfErr, IfOk, IfSome, if◌then◌else◌, string_bytes}
 use Rattle.std.specs.Str.Lossy.{utf8_lossy}
-use Rattle.serde_json.specs.Data.{Data, string}
-use Rattle.serde_json.specs.View.{view}
+use Rattle.serde_json.specs.Data.{Data, array, string}
+use Rattle.serde_json.specs.View.{items_of, view}
 use Rattle.serde_json.specs.Written.{compact_text}
 use Rattle.serde_json.specs.declared.value.Value.{Value}
 use Rattle.x_session.specs.Session.{Compiles}
@@ -19,13 +19,15 @@ use Rattle.x_frames.specs.declared.method.DocumentQuestion.{DocumentQuestion}
 use Rattle.x_frames.specs.declared.method.DocumentQuestion.TheVariants.{Symbols, Folds, Tokens, Text}
 use Rattle.x_frames.specs.declared.method.Question.{Question}
 use Rattle.x_frames.specs.declared.method.Question.TheVariants.{OfDocument}
+use Rattle.x_compile.specs.Compile.{Item, tokens_of}
 use Rattle.x_contents.specs.DocumentTexts.{told_text}
+use Rattle.x_contents.specs.Folds.{folds_in}
 use Rattle.x_contents.specs.Wanting.{wanted_in}
 use Rattle.x_contents.specs.declared.wanted.Wanted.{Wanted}
 use Rattle.x_documents.specs.Compiled.{IsCompiled}
 use Rattle.x_documents.specs.DocumentNames.{name_of}
 use Rattle.x_documents.specs.Documents.{Document}
-use Rattle.x_documents.specs.Grounds.{constants_of}
+use Rattle.x_documents.specs.Grounds.{CompilesOn, compiled_of, constants_of}
 use Rattle.x_documents.specs.Views.{view_document}
 use Rattle.x_documents.specs.declared.document.OpenDocument.{OpenDocument}
 use Rattle.x_lsp.specs.Answering.{FindsAt, FindsOf, IsAnsweredAt, IsAnsweredBy, IsTextOf}
@@ -81,10 +83,11 @@ refused_by id question (Some d) params code said finds refused = refused_at id q
 
 -- ---- what is found of an open document that is in step
 
-text_is : (d : OpenDocument) (w : Wanted) (result : Data) → IsCompiled d.files.items d.blanks d.shown d.compiled
-    → Compiles d.compiled.session.known d.compiled.session.text (λ items. result ≡ string (utf8_lossy (told_text w d.compiled.session.base d.compiled.session.text items)))
-    → IsTextOf (view_document d) d.shown w result
-text_is d w result is told =
+-- what compiling its text gives
+on_ground : (d : OpenDocument) (P : List ℕ → List Item → Type 0) → IsCompiled d.files.items d.blanks d.shown d.compiled
+    → Compiles d.compiled.session.known d.compiled.session.text (P d.compiled.session.text)
+    → ∥ CompilesOn (view_document d).on d.shown (P (compiled_of d.blanks d.shown)) ∥₁
+on_ground d P is told =
     let known = d.compiled.session.known in
     let text = d.compiled.session.text in
     let from = d.compiled.from_c in
@@ -92,37 +95,44 @@ text_is d w result is told =
     ∥∥₁_map is.before (λ before. (
       known,
       subst (λ t. IsBefore front from t known) is.text_is (subst (λ f. IsBefore f from text known) is.files_are before),
-      subst (λ t. Compiles known t (λ items. result ≡ string (utf8_lossy (told_text w (base_of (name_of (string_bytes d.uri))) t items)))) is.text_is
-          (subst (λ b. Compiles known text (λ items. result ≡ string (utf8_lossy (told_text w b text items)))) d.based told),
+      subst (λ t. Compiles known t (P t)) is.text_is told,
     ))
 
+-- the text that `rpcgen/text` asks for
+abbrev IsToldBy : (d : OpenDocument) → (base : List ℕ) → Wanted → Data → List ℕ → List Item → Type 0
+IsToldBy d base w result text items = result ≡ string (utf8_lossy (told_text w base text items))
+
 text_if : (d : OpenDocument) (wanted : Option Wanted) (v : Value) → IsCompiled d.files.items d.blanks d.shown d.compiled
-    → IfSome wanted (λ w. IfOk {E = ErrorCode} (Ok v) (λ v. Compiles d.compiled.session.known d.compiled.session.text (λ items. view v ≡ string (utf8_lossy (told_text w d.compiled.session.base d.compiled.session.text items)))))
+    → IfSome wanted (λ w. IfOk {E = ErrorCode} (Ok v) (λ v. Compiles d.compiled.session.known d.compiled.session.text
+    (IsToldBy d d.compiled.session.base w (view v) d.compiled.session.text)))
     → IfSome wanted (λ w. IsTextOf (view_document d) d.shown w (view v))
 text_if d None v is told = tt
-text_if d (Some w) v is told = text_is d w (view v) is told
+text_if d (Some w) v is told = on_ground d (IsToldBy d (base_of (name_of (string_bytes d.uri))) w (view v)) is
+    (subst (λ b. Compiles d.compiled.session.known d.compiled.session.text (IsToldBy d b w (view v) d.compiled.session.text)) d.based told)
+
+-- what the session of a document is asked for
+pub record AreFoundIn (q : DocumentQuestion) (shown : List ℕ) (params : Option Data) (text : FollowedText) (result : Result Value ErrorCode) : Type 0 where
+  pub code_is : IfErr result (λ code. is_of_question code ≡ true)
+  pub folds : q ≡ Folds → IfOk result (λ v. Compiles text.session.known text.session.text (λ items. view v ≡ array (items_of (folds_in shown (tokens_of items)))))
+  pub told : q ≡ Text → IfSome (wanted_in params) (λ w. IfOk result (λ v. Compiles text.session.known text.session.text (λ items. view v
+      ≡ string (utf8_lossy (told_text w text.session.base text.session.text items)))))
 
 -- what is found of a whole document
-pub document_found : (d : OpenDocument) (q : DocumentQuestion) (params : Option Data) (result : Result Value ErrorCode) → IsCompiled d.files.items d.blanks d.shown d.compiled
-    → IfErr result (λ code. is_of_question code ≡ true)
-    → (q ≡ Text → IfSome (wanted_in params) (λ w. IfOk result (λ v. Compiles d.compiled.session.known d.compiled.session.text (λ items. view v
-    ≡ string (utf8_lossy (told_text w d.compiled.session.base d.compiled.session.text items))))))
-    → FindsAt (OfDocument q) (view_document d) (Some d.shown) params result
-document_found d q params (Err code) is code_is told = code_is
-document_found d Symbols params (Ok v) is code_is told = tt
-document_found d Folds params (Ok v) is code_is told = tt
-document_found d Tokens params (Ok v) is code_is told = tt
-document_found d Text params (Ok v) is code_is told = text_if d (wanted_in params) v is (told refl)
+document_found : (d : OpenDocument) (q : DocumentQuestion) (params : Option Data) (result : Result Value ErrorCode) → IsCompiled d.files.items d.blanks d.shown d.compiled
+    → AreFoundIn q d.shown params d.compiled result → FindsAt (OfDocument q) (view_document d) (Some d.shown) params result
+document_found d q params (Err code) is found = found.code_is
+document_found d Symbols params (Ok v) is found = tt
+document_found d Folds params (Ok v) is found =
+    on_ground d (λ text items. view v ≡ array (items_of (folds_in d.shown (tokens_of items)))) is (found.folds refl)
+document_found d Tokens params (Ok v) is found = tt
+document_found d Text params (Ok v) is found = text_if d (wanted_in params) v is (found.told refl)
 
 -- the same where it is not yet known that the document is in step
-pub in_step_found : (d : OpenDocument) (question : Question) (q : DocumentQuestion) (params : Option Data) (text : FollowedText) (result : Result Value ErrorCode)
-    → d.in_step ≡ true → question ≡ OfDocument q → text ≡ d.compiled → IfErr result (λ code. is_of_question code ≡ true)
-    → (q ≡ Text → IfSome (wanted_in params) (λ w. IfOk result (λ v. Compiles text.session.known text.session.text (λ items. view v
-    ≡ string (utf8_lossy (told_text w text.session.base text.session.text items))))))
+pub in_step_found : (d : OpenDocument) (question : Question) (q : DocumentQuestion) (params : Option Data) (shown : List ℕ) (text : FollowedText) (result : Result Value ErrorCode)
+    → d.in_step ≡ true → question ≡ OfDocument q → shown ≡ d.shown → text ≡ d.compiled → AreFoundIn q shown params text result
     → FindsAt question (view_document d) (if d.in_step then Some d.shown else None) params result
-in_step_found d question q params text result step is same code_is told =
+in_step_found d question q params shown text result step is shows same found =
     subst (λ (u : Question). FindsAt u (view_document d) (if d.in_step then Some d.shown else None) params result) (sym is)
     (subst (λ (b : Bool). FindsAt (OfDocument q) (view_document d) (if b then Some d.shown else None) params result) (sym step)
-    (document_found d q params result (d.followed step) code_is
-    (subst (λ (t : FollowedText). q ≡ Text → IfSome (wanted_in params) (λ w. IfOk result (λ v. Compiles t.session.known t.session.text (λ items. view v
-    ≡ string (utf8_lossy (told_text w t.session.base t.session.text items)))))) same told)))
+    (document_found d q params result (d.followed step)
+    (subst (λ (t : FollowedText). AreFoundIn q d.shown params t result) same (subst (λ s. AreFoundIn q s params text result) shows found))))

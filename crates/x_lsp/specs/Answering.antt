@@ -2,8 +2,8 @@
 use Rattle.std.specs.Prelude.{◌≡◌, ◌⊎◌, ℕ, List, true, IfSome, Option, None, Some, Result, Ok, Err}
 use Rattle.std.specs.Prelude.{option_and_then}
 use Rattle.std.specs.Str.Lossy.{utf8_lossy}
-use Rattle.serde_json.specs.Data.{Data, string}
-use Rattle.serde_json.specs.View.{view}
+use Rattle.serde_json.specs.Data.{Data, array, string}
+use Rattle.serde_json.specs.View.{items_of, view}
 use Rattle.serde_json.specs.Written.{compact_text}
 use Rattle.serde_json.specs.declared.value.Value.{Value}
 use Rattle.x_args.specs.BaseNames.{base_of}
@@ -12,13 +12,15 @@ use Rattle.x_frames.specs.Lives.{is_of_question}
 use Rattle.x_frames.specs.Params.{uri_in}
 use Rattle.x_frames.specs.declared.answers.ErrorCode.{ErrorCode}
 use Rattle.x_frames.specs.declared.answers.ErrorCode.TheVariants.{ContentModified, InvalidParams}
-use Rattle.x_frames.specs.declared.method.DocumentQuestion.TheVariants.{Text}
+use Rattle.x_frames.specs.declared.method.DocumentQuestion.TheVariants.{Folds, Text}
 use Rattle.x_frames.specs.declared.method.Question.{Question}
 use Rattle.x_frames.specs.declared.method.Question.TheVariants.{OfDocument}
 use Rattle.x_documents.specs.DocumentNames.{name_of}
 use Rattle.x_documents.specs.Documents.{Document, document_of}
 use Rattle.x_documents.specs.Grounds.{CompilesOn, compiled_of}
+use Rattle.x_compile.specs.Compile.{tokens_of}
 use Rattle.x_contents.specs.DocumentTexts.{told_text}
+use Rattle.x_contents.specs.Folds.{folds_in}
 use Rattle.x_contents.specs.Wanting.{wanted_in}
 use Rattle.x_contents.specs.declared.wanted.Wanted.{Wanted}
 
@@ -28,10 +30,16 @@ abbrev pub IsTextOf : Document → (shown : List ℕ) → Wanted → Data → Ty
 IsTextOf d shown wanted result = ∥ CompilesOn d.on shown (λ items. result ≡ string (utf8_lossy
     (told_text wanted (base_of (name_of d.uri)) (compiled_of d.on.blanks shown) items))) ∥₁
 
+-- it is the folds of the text that is shown, by the tokens of what is compiled of it
+abbrev pub AreFoldsOf : Document → (shown : List ℕ) → Data → Type 0
+AreFoldsOf d shown result =
+    ∥ CompilesOn d.on shown (λ items. result ≡ array (items_of (folds_in shown (tokens_of items)))) ∥₁
+
 -- the result of a question about a document whose text is this; of most questions nothing is said here
 abbrev pub IsResultOf : Question → Document → (shown : List ℕ) → (params : Option Data) → Data → Type 0
 IsResultOf (OfDocument Text) d shown params result = IfSome (wanted_in params)
     (λ wanted. IsTextOf d shown wanted result)
+IsResultOf (OfDocument Folds) d shown params result = AreFoldsOf d shown result
 IsResultOf question d shown params result = Unit {0}
 
 -- the document that a question names, if it is open
