@@ -8,9 +8,10 @@ ghost use Rattle.serde_json.specs.Written.{has_float};
 ghost use Rattle.x_compile.specs.Compile.{tokens_of};
 ghost use Rattle.x_session.specs.Session.{Compiles};
 ghost use Rattle.x_frames.specs.Lives.{is_of_question};
-ghost use Rattle.x_frames.specs.declared.method.DocumentQuestion.TheVariants.{Folds, Text};
+ghost use Rattle.x_frames.specs.declared.method.DocumentQuestion.TheVariants.{Folds, Symbols, Text};
 ghost use Rattle.x_contents.specs.DocumentTexts.{told_text};
 ghost use Rattle.x_contents.specs.Folds.{folds_in};
+ghost use Rattle.x_contents.specs.Symbols.{symbols_in};
 ghost use Rattle.x_contents.specs.Wanting.{wanted_in};
 
 use crate::folds::folds;
@@ -40,6 +41,8 @@ pub fn answer_about_document(
 ) -> Result<Value, ErrorCode>
     ensures value { IfOk result (λ v. has_float (view v) ≡ false) }
     ensures code { IfErr result (λ code. is_of_question code ≡ true) }
+    ensures symbols { question ≡ Symbols → IfOk result (λ v. Compiles session.now.known session.now.text
+        (λ items. view v ≡ array (items_of (symbols_in encoding shown.now items)))) }
     ensures folds { question ≡ Folds → IfOk result (λ v. Compiles session.now.known session.now.text
         (λ items. view v ≡ array (items_of (folds_in shown.now (tokens_of items))))) }
     ensures text { question ≡ Text → IfSome (wanted_in (option_map (λ p. view p.now) params.entry))

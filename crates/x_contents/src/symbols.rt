@@ -1,17 +1,24 @@
 //! What a document defines, as an outline shows it.
 
-ghost use Rattle.std.specs.Prelude.{◌≡◌, false, map, IfOk, IfSome, OnOk};
-ghost use Rattle.x_lex.specs.Places.{lexeme};
-ghost use Rattle.serde_json.specs.View.{view};
+ghost use Rattle.std.specs.Prelude.{◌≡◌, false, map, option_map, IfOk, IfSome, OnOk};
+ghost use Rattle.std.specs.Str.Lossy.{utf8_lossy};
+ghost use Rattle.serde_json.specs.Data.{array};
+ghost use Rattle.serde_json.specs.View.{items_of, view};
 ghost use Rattle.serde_json.specs.Written.{has_float};
+ghost use Rattle.x_lex.specs.Places.{lexeme};
+ghost use Rattle.x_trees.specs.View.{tree_at};
+ghost use Rattle.x_session.specs.Session.{Compiles};
 ghost use Rattle.x_positions.specs.PositionData.{range_data};
-ghost use Rattle.x_contents.specs.Symbols.{symbol_data, symbol_kind, token_range};
+ghost use Rattle.x_frames.specs.Plain.{listed};
+ghost use Rattle.x_contents.specs.Reading.{levels_of, outline_of};
+ghost use Rattle.x_contents.specs.Symbols.{children_in, is_below, last_of, left_in, symbol_data, symbol_kind};
+ghost use Rattle.x_contents.specs.Symbols.{symbol_of, symbols_in, token_range, with_definition, with_part};
+ghost use Rattle.x_contents.specs.Symbols.{with_parsed, with_sibling};
 
 use serde_json::{Value, json};
 use std::alloc::{AllocError, Global};
-use std::str;
 use x_frames::PlainList;
-use x_item::next_item;
+use x_item::{Definition, next_item};
 use x_lex::Token;
 use x_lookups::{Part, PartKind, parts_of};
 use x_positions::{Encoding, Places, Range, range_value};
@@ -25,7 +32,9 @@ pub(crate) fn symbols(
     shown: &Source,
     session: &Session,
 ) -> Result<Value, NoMemory>
-    ensures { IfOk result (λ v. has_float (view v) ≡ false) }
+    ensures plain { IfOk result (λ v. has_float (view v) ≡ false) }
+    ensures symbols { IfOk result (λ v. Compiles session.now.known session.now.text
+        (λ items. view v ≡ array (items_of (symbols_in encoding shown.now items)))) }
 {
     let mut symbols = PlainList::new(alloc);
     let mut walk = session.tokens();
@@ -35,9 +44,8 @@ pub(crate) fn symbols(
     for item in 0..session.item_count() {
         next_item(&mut tokens, &mut walk)?;
         put_ranges(&mut places, &tokens, &mut ranges)?;
-        if session.definition(item).is_some() {
-            add_symbols(alloc, &tokens, &ranges, &mut symbols)?;
-        }
+        let definition = session.definition(item);
+        add_parsed(alloc, definition, &tokens, &ranges, &mut symbols)?;
     }
     Ok(symbols.into_value())
 }
@@ -62,25 +70,61 @@ fn put_ranges(
     Ok(())
 }
 
+/// Adds the symbol of an item, if it has a definition.
+fn add_parsed(
+    alloc: Global,
+    definition: Option<&Definition>,
+    tokens: &[Token],
+    ranges: &[Range],
+    symbols: &mut PlainList,
+) -> Result<(), NoMemory>
+    ensures { OnOk result (listed symbols.new
+        ≡ with_parsed (listed symbols.old) (map lexeme tokens.now) ranges.now (tree_at definition.entry)) }
+{
+    match definition {
+        Some(_) => add_symbols(alloc, tokens, ranges, symbols),
+        None => Ok(()),
+    }
+}
+
 /// Adds the symbol of a definition.
 fn add_symbols(
     alloc: Global,
     tokens: &[Token],
     ranges: &[Range],
     symbols: &mut PlainList,
-) -> Result<(), NoMemory> {
+) -> Result<(), NoMemory>
+    ensures { OnOk result (listed symbols.new
+        ≡ with_definition (listed symbols.old) (map lexeme tokens.now) ranges.now) }
+{
     let mut levels = Vec::new(alloc);
     for part in &parts_of(alloc, tokens)? {
-        let children = children_of(alloc, &mut levels, part.depth);
-        if let Some(symbol) = symbol_of(alloc, tokens, ranges, part, children)? {
-            if part.depth == 0 {
-                symbols.push(symbol)?;
-            } else {
-                add_to_level(alloc, &mut levels, part.depth, symbol)?;
-            }
-        }
+        add_symbol(alloc, tokens, ranges, part, &mut levels, symbols)?;
     }
     Ok(())
+}
+
+/// Adds the symbol of a part: to those of whole definitions, or to those whose parent is yet to come.
+fn add_symbol(
+    alloc: Global,
+    tokens: &[Token],
+    ranges: &[Range],
+    part: &Part,
+    levels: &mut Vec<Level>,
+    symbols: &mut PlainList,
+) -> Result<(), NoMemory>
+    ensures { OnOk result (outline_of levels.new symbols.new
+        ≡ with_part (map lexeme tokens.now) ranges.now (outline_of levels.old symbols.old) part.now) }
+{
+    let children = children_of(alloc, levels, part.depth);
+    let Some(symbol) = symbol_of(alloc, tokens, ranges, part, children)? else {
+        return Ok(());
+    };
+    if part.depth == 0 {
+        symbols.push(symbol)
+    } else {
+        add_to_level(alloc, levels, part.depth, symbol)
+    }
 }
 
 /// Symbols at one depth, behind one another, whose parent is yet to come.
@@ -91,13 +135,27 @@ struct Level {
 }
 
 /// Takes the symbols that stand in a part at a depth.
-fn children_of(alloc: Global, levels: &mut Vec<Level>, depth: usize) -> PlainList {
-    if levels.last().is_some_and(|level| level.depth > depth)
-        && let Some(level) = levels.pop()
-    {
-        return level.symbols;
+fn children_of(alloc: Global, levels: &mut Vec<Level>, depth: usize) -> PlainList
+    ensures children { listed result ≡ children_in (levels_of levels.old.items) depth }
+    ensures left { levels_of levels.new.items ≡ left_in (levels_of levels.old.items) depth }
+{
+    if !is_below(levels, depth) {
+        return PlainList::new(alloc);
     }
-    PlainList::new(alloc)
+    match levels.pop() {
+        Some(level) => level.symbols,
+        None => PlainList::new(alloc),
+    }
+}
+
+/// Whether the last symbols stand below a depth.
+fn is_below(levels: &[Level], depth: usize) -> bool
+    ensures { result ≡ is_below (last_of (levels_of levels.now)) depth }
+{
+    match levels.last() {
+        Some(level) => level.depth > depth,
+        None => false,
+    }
 }
 
 /// Adds a symbol at a depth, behind those that stand there.
@@ -108,6 +166,8 @@ fn add_to_level(
     symbol: Value,
 ) -> Result<(), NoMemory>
     requires { has_float (view symbol) ≡ false }
+    ensures { OnOk result
+        (levels_of levels.new.items ≡ with_sibling (levels_of levels.old.items) depth (view symbol)) }
 {
     let mut symbols = children_of(alloc, levels, depth.saturating_sub(1));
     symbols.push(symbol)?;
@@ -123,7 +183,9 @@ fn symbol_of(
     part: &Part,
     children: PlainList,
 ) -> Result<Option<Value>, NoMemory>
-    ensures { IfOk result (λ found. IfSome found (λ v. has_float (view v) ≡ false)) }
+    ensures plain { IfOk result (λ found. IfSome found (λ v. has_float (view v) ≡ false)) }
+    ensures symbol { IfOk result (λ found. option_map view found
+        ≡ symbol_of (map lexeme tokens.now) ranges.now part.now (listed children)) }
 {
     let Some(token) = tokens.get(part.name) else {
         return Ok(None);
@@ -154,11 +216,14 @@ fn symbol(
     selection: &Range,
     children: PlainList,
 ) -> Result<Value, NoMemory>
-    ensures { IfOk result (λ v. has_float (view v) ≡ false) }
+    ensures plain { IfOk result (λ v. has_float (view v) ≡ false) }
+    ensures symbol { IfOk result (λ v. view v ≡ symbol_data kind (utf8_lossy name.now)
+        (range_data range.now.start range.now.end) (range_data selection.now.start selection.now.end)
+        (array (items_of (listed children)))) }
 {
-    let name = str::from_utf8(name).unwrap_or("?");
+    let name = String::from_utf8_lossy(alloc, name)?;
     let children = children.into_value();
-    let value = symbol_value(alloc, kind, name, range, selection, children)?;
+    let value = symbol_value(alloc, kind, name.as_str(), range, selection, children)?;
     Ok(value)
 }
 

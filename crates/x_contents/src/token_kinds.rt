@@ -11,7 +11,7 @@ ghost use Rattle.x_contents.specs.TokenKinds.{number_data, numbers_of};
 
 use serde_json::{Value, json};
 use std::alloc::Global;
-use x_declared::definitions;
+use x_declared::{definitions, names};
 use x_frames::PlainList;
 use x_item::{Glossary, NameKind, is_significant, next_item};
 use x_lex::{Kind, Token};
@@ -109,7 +109,7 @@ pub(crate) fn token_kinds(
     ensures { IfOk result (λ v. has_float (view v) ≡ false) }
 {
     let definitions = definitions(alloc, session)?;
-    let names = Names::keyed(alloc, session.hash_key(), &definitions)?;
+    let names = names(alloc, session)?;
     let mut told = ToldTokens {
         data: PlainList::new(alloc),
         places: Places::of(encoding, shown.bytes()),

@@ -32,7 +32,7 @@ use std::mem;
 use x_args::base_name;
 use x_frames::{TextChange, position_asked};
 use x_hash::HashKey;
-use x_positions::{Position, Waymarks};
+use x_positions::{Encoding, Position, Waymarks};
 use x_prelude::FollowedText;
 use x_published::{Client, FaultMessages};
 use x_session::EditFault;
@@ -265,6 +265,13 @@ impl OpenDocument {
         ensures { result ≡ self.now.in_step }
     {
         self.in_step
+    }
+
+    /// How the client that opened it counts characters.
+    pub fn encoding(&self) -> Encoding
+        ensures { result ≡ self.now.client.encoding }
+    {
+        self.client.encoding
     }
 
     /// Its URI, as it was opened.

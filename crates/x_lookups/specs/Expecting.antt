@@ -122,8 +122,8 @@ expected_behind (last.Mark marks.OpenBrace) parentheses body = expected_in body
 expected_behind (last.Mark marks.Semicolon) parentheses body = expected_in body
 expected_behind (last.Mark mark) parentheses body = Nothing
 
--- The keywords of the bodies that are open, from the outermost on, with `switch` for that of a union; the last
--- keyword that a body may stand behind; how many parentheses are open; and the last word.
+-- The keywords of the bodies that are open, from the outermost on, with `switch` for that of a union; the
+-- last keyword that a body may stand behind; how many parentheses are open; and the last word.
 pub record Around : Type 0 where
   pub bodies : List Mark
   pub head : Option Mark

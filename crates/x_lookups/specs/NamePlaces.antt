@@ -7,6 +7,8 @@ use Rattle.x_lex.specs.Places.{Lexeme}
 use Rattle.x_trees.specs.Tree.{Definition}
 use Rattle.x_trees.specs.Names.{Declared, declared}
 use Rattle.x_trees.specs.Mentions.{Mention, mentioned}
+use Rattle.x_names.specs.DeclarerTable.{first_in}
+use Rattle.x_names.specs.declared.names.Declarer.{Declarer}
 use Rattle.x_compile.specs.Compile.{Item, parsed_definition}
 use Rattle.x_declared.specs.DeclaredNames.{words_in}
 use Rattle.x_lookups.specs.declared.name_places.Standing.{Standing}
@@ -74,11 +76,17 @@ abbrev pub is_lifted_name : List Item → List ℕ → Bool
 is_lifted_name items name = is_some (first_of
     (tokens_where (λ n. not (is_own n.standing) && bytes_eq name n.name) (names_of items)))
 
--- the name at a place: that of the first token there which is a declared name, or uses one
+-- the first token at a place which is a declared name, or uses one; and its text, the name there
+abbrev pub token_at : List Item → ℕ → Option Lexeme
+token_at items at = first_of (tokens_where (λ n. is_own n.standing && touches n.token at) (names_of items))
+
 abbrev pub name_at : List Item → ℕ → Option (List ℕ)
-name_at items at =
-    option_map (λ t. t.text)
-    (first_of (tokens_where (λ n. is_own n.standing && touches n.token at) (names_of items)))
+name_at items at = option_map (λ t. t.text) (token_at items at)
+
+-- a token with the first declarer of its name by a table, if there is one
+abbrev pub named_by : List (List ℕ × Declarer) → Option Lexeme → Option (Lexeme × Declarer)
+named_by table None = None
+named_by table (Some t) = option_map (λ d. (t, d)) (first_in table t.text)
 
 -- the tokens that use a name, and if asked for, those that declare it
 abbrev pub uses_of : List Item → Bool → List ℕ → List Lexeme

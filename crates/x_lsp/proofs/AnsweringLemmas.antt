@@ -8,6 +8,7 @@ use Rattle.serde_json.specs.View.{items_of, view}
 use Rattle.serde_json.specs.Written.{compact_text}
 use Rattle.serde_json.specs.declared.value.Value.{Value}
 use Rattle.x_session.specs.Session.{Compiles}
+use Rattle.x_positions.specs.declared.encoding.Encoding.{Encoding}
 use Rattle.x_args.specs.BaseNames.{base_of}
 use Rattle.x_prelude.specs.Before.{IsBefore}
 use Rattle.x_prelude.specs.declared.followed.FollowedText.{FollowedText}
@@ -22,6 +23,7 @@ use Rattle.x_frames.specs.declared.method.Question.TheVariants.{OfDocument}
 use Rattle.x_compile.specs.Compile.{Item, tokens_of}
 use Rattle.x_contents.specs.DocumentTexts.{told_text}
 use Rattle.x_contents.specs.Folds.{folds_in}
+use Rattle.x_contents.specs.Symbols.{symbols_in}
 use Rattle.x_contents.specs.Wanting.{wanted_in}
 use Rattle.x_contents.specs.declared.wanted.Wanted.{Wanted}
 use Rattle.x_documents.specs.Compiled.{IsCompiled}
@@ -111,28 +113,32 @@ text_if d (Some w) v is told = on_ground d (IsToldBy d (base_of (name_of (string
     (subst (λ b. Compiles d.compiled.session.known d.compiled.session.text (IsToldBy d b w (view v) d.compiled.session.text)) d.based told)
 
 -- what the session of a document is asked for
-pub record AreFoundIn (q : DocumentQuestion) (shown : List ℕ) (params : Option Data) (text : FollowedText) (result : Result Value ErrorCode) : Type 0 where
+pub record AreFoundIn (q : DocumentQuestion) (encoding : Encoding) (shown : List ℕ) (params : Option Data) (text : FollowedText) (result : Result Value ErrorCode) : Type 0 where
   pub code_is : IfErr result (λ code. is_of_question code ≡ true)
+  pub symbols : q ≡ Symbols → IfOk result (λ v. Compiles text.session.known text.session.text (λ items. view v ≡ array (items_of (symbols_in encoding shown items))))
   pub folds : q ≡ Folds → IfOk result (λ v. Compiles text.session.known text.session.text (λ items. view v ≡ array (items_of (folds_in shown (tokens_of items)))))
   pub told : q ≡ Text → IfSome (wanted_in params) (λ w. IfOk result (λ v. Compiles text.session.known text.session.text (λ items. view v
       ≡ string (utf8_lossy (told_text w text.session.base text.session.text items)))))
 
 -- what is found of a whole document
 document_found : (d : OpenDocument) (q : DocumentQuestion) (params : Option Data) (result : Result Value ErrorCode) → IsCompiled d.files.items d.blanks d.shown d.compiled
-    → AreFoundIn q d.shown params d.compiled result → FindsAt (OfDocument q) (view_document d) (Some d.shown) params result
+    → AreFoundIn q d.client.encoding d.shown params d.compiled result → FindsAt (OfDocument q) (view_document d) (Some d.shown) params result
 document_found d q params (Err code) is found = found.code_is
-document_found d Symbols params (Ok v) is found = tt
+document_found d Symbols params (Ok v) is found =
+    on_ground d (λ text items. view v ≡ array (items_of (symbols_in d.client.encoding d.shown items))) is (found.symbols refl)
 document_found d Folds params (Ok v) is found =
     on_ground d (λ text items. view v ≡ array (items_of (folds_in d.shown (tokens_of items)))) is (found.folds refl)
 document_found d Tokens params (Ok v) is found = tt
 document_found d Text params (Ok v) is found = text_if d (wanted_in params) v is (found.told refl)
 
 -- the same where it is not yet known that the document is in step
-pub in_step_found : (d : OpenDocument) (question : Question) (q : DocumentQuestion) (params : Option Data) (shown : List ℕ) (text : FollowedText) (result : Result Value ErrorCode)
-    → d.in_step ≡ true → question ≡ OfDocument q → shown ≡ d.shown → text ≡ d.compiled → AreFoundIn q shown params text result
+pub in_step_found : (d : OpenDocument) (question : Question) (q : DocumentQuestion) (params : Option Data) (encoding : Encoding) (shown : List ℕ) (text : FollowedText) (result : Result Value ErrorCode)
+    → d.in_step ≡ true → question ≡ OfDocument q → encoding ≡ d.client.encoding → shown ≡ d.shown → text ≡ d.compiled → AreFoundIn q encoding shown params text result
     → FindsAt question (view_document d) (if d.in_step then Some d.shown else None) params result
-in_step_found d question q params shown text result step is shows same found =
+in_step_found d question q params encoding shown text result step is counts shows same found =
     subst (λ (u : Question). FindsAt u (view_document d) (if d.in_step then Some d.shown else None) params result) (sym is)
     (subst (λ (b : Bool). FindsAt (OfDocument q) (view_document d) (if b then Some d.shown else None) params result) (sym step)
     (document_found d q params result (d.followed step)
-    (subst (λ (t : FollowedText). AreFoundIn q d.shown params t result) same (subst (λ s. AreFoundIn q s params text result) shows found))))
+    (subst (λ (t : FollowedText). AreFoundIn q d.client.encoding d.shown params t result) same
+    (subst (λ s. AreFoundIn q d.client.encoding s params text result) shows
+    (subst (λ (e : Encoding). AreFoundIn q e shown params text result) counts found)))))

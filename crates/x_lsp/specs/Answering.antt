@@ -12,7 +12,7 @@ use Rattle.x_frames.specs.Lives.{is_of_question}
 use Rattle.x_frames.specs.Params.{uri_in}
 use Rattle.x_frames.specs.declared.answers.ErrorCode.{ErrorCode}
 use Rattle.x_frames.specs.declared.answers.ErrorCode.TheVariants.{ContentModified, InvalidParams}
-use Rattle.x_frames.specs.declared.method.DocumentQuestion.TheVariants.{Folds, Text}
+use Rattle.x_frames.specs.declared.method.DocumentQuestion.TheVariants.{Folds, Symbols, Text}
 use Rattle.x_frames.specs.declared.method.Question.{Question}
 use Rattle.x_frames.specs.declared.method.Question.TheVariants.{OfDocument}
 use Rattle.x_documents.specs.DocumentNames.{name_of}
@@ -21,6 +21,7 @@ use Rattle.x_documents.specs.Grounds.{CompilesOn, compiled_of}
 use Rattle.x_compile.specs.Compile.{tokens_of}
 use Rattle.x_contents.specs.DocumentTexts.{told_text}
 use Rattle.x_contents.specs.Folds.{folds_in}
+use Rattle.x_contents.specs.Symbols.{symbols_in}
 use Rattle.x_contents.specs.Wanting.{wanted_in}
 use Rattle.x_contents.specs.declared.wanted.Wanted.{Wanted}
 
@@ -29,6 +30,11 @@ use Rattle.x_contents.specs.declared.wanted.Wanted.{Wanted}
 abbrev pub IsTextOf : Document → (shown : List ℕ) → Wanted → Data → Type 0
 IsTextOf d shown wanted result = ∥ CompilesOn d.on shown (λ items. result ≡ string (utf8_lossy
     (told_text wanted (base_of (name_of d.uri)) (compiled_of d.on.blanks shown) items))) ∥₁
+
+-- it is the symbols of the definitions of the text that is shown, by what is compiled of it
+abbrev pub AreSymbolsOf : Document → (shown : List ℕ) → Data → Type 0
+AreSymbolsOf d shown result =
+    ∥ CompilesOn d.on shown (λ items. result ≡ array (items_of (symbols_in d.client.encoding shown items))) ∥₁
 
 -- it is the folds of the text that is shown, by the tokens of what is compiled of it
 abbrev pub AreFoldsOf : Document → (shown : List ℕ) → Data → Type 0
@@ -39,6 +45,7 @@ AreFoldsOf d shown result =
 abbrev pub IsResultOf : Question → Document → (shown : List ℕ) → (params : Option Data) → Data → Type 0
 IsResultOf (OfDocument Text) d shown params result = IfSome (wanted_in params)
     (λ wanted. IsTextOf d shown wanted result)
+IsResultOf (OfDocument Symbols) d shown params result = AreSymbolsOf d shown result
 IsResultOf (OfDocument Folds) d shown params result = AreFoldsOf d shown result
 IsResultOf question d shown params result = Unit {0}
 

@@ -210,7 +210,7 @@ impl<'k> Server<'k> {
         match question {
             Question::OfDocument(question) => answer_about_document(
                 self.alloc,
-                self.client.encoding,
+                document.encoding(),
                 document.shown(),
                 &document.compiled().session,
                 question,
@@ -224,7 +224,7 @@ impl<'k> Server<'k> {
                 };
                 answer_about_place(
                     self.alloc,
-                    self.client.encoding,
+                    document.encoding(),
                     &text,
                     document.place_asked(params),
                     question,

@@ -7,5 +7,5 @@ returns-in-OfDocument-clause-finds c =
     let d = c.args.document.now in
     let step : d.in_step ≡ true = sym c.is_in_step.ensures ∙ c.if-not-is_in_step.false in
     let asked = c.answer_about_document.ensures in
-    in_step_found d c.args.question c.in-OfDocument.question _ c.shown.result.now c.compiled.result.now c.answer_about_document.result step c.in-OfDocument.is
-    c.shown.ensures c.compiled.ensures (record { code_is = asked.code; folds = asked.folds; told = asked.text })
+    in_step_found d c.args.question c.in-OfDocument.question _ c.encoding.result c.shown.result.now c.compiled.result.now c.answer_about_document.result step c.in-OfDocument.is
+    c.encoding.ensures c.shown.ensures c.compiled.ensures (record { code_is = asked.code; symbols = asked.symbols; folds = asked.folds; told = asked.text })
