@@ -2,8 +2,8 @@
 use crate::asserts::expect_eq;
 use crate::before::nothing;
 use rpcx::{
-    DumpArgs, EditArgs, FaultStyle, KnownSources, Mode, Opening, Status, dump_run, edit_run,
-    gen_write,
+    DumpArgs, EditArgs, FaultStyle, GenArgs, KnownSources, Mode, Opening, Status, dump_run,
+    edit_run, gen_mode, gen_open, gen_write,
 };
 use std::alloc::Global;
 use std::test::Fail;
@@ -24,6 +24,40 @@ fn a_generator_tells_of_a_full_sink(rt: HostRuntime) -> Result<(), Fail> {
         b"rpcgen: output cannot be written\n".as_slice(),
     );
     Ok(())
+}
+
+/// A command line with two letters.
+fn two_letters(alloc: Global) -> GenArgs<'static> {
+    GenArgs {
+        routines: true,
+        header: true,
+        stubs: false,
+        table: false,
+        output: None,
+        explains: false,
+        plain: false,
+        strict: false,
+        before: nothing(alloc),
+        file: "t.x",
+    }
+}
+
+/// A union whose case no enumerator has the name of.
+const FAULTY: &[u8] = b"enum e {A=0}; union u switch (e d) {case B: int x; default: void;};";
+
+#[test]
+fn a_generator_wants_one_letter_and_no_fault(rt: HostRuntime) {
+    let mut told = [0u8; 128];
+    let mut err = MemSink::new(&mut told, 128, 128);
+    let args = two_letters(rt.alloc());
+    let mode = gen_mode(&args, &mut err);
+    assert!(rt; mode.is_none());
+    let known = KnownSources::none(rt.alloc());
+    let how = Opening::of(FaultStyle::Plain, &known, &args.before);
+    let opened = gen_open(rt.alloc(), "t.x", FAULTY, &how, &mut err);
+    assert!(rt; matches!(opened, Err(Status::Faulty)));
+    let wanted = "rpcgen: exactly one of -c, -h, -l, -t\nt.x:1:42: 21 Unknown\n";
+    expect_eq(&rt, err.bytes(), wanted.as_bytes());
 }
 
 #[test]

@@ -7,7 +7,6 @@ use Rattle.x_lex.specs.declared.kind.Kind.{Kind}
 use Rattle.x_lex.specs.Places.{Lexeme}
 use Rattle.x_trees.specs.Tree.{Definition}
 use Rattle.x_cutting.specs.Items.{AreItems, IsNext}
-use Rattle.x_item.specs.Parse.{Parse, IsParse}
 use Rattle.x_compile.specs.Compile.{Item, IsCompilation, definition_at, parsed_definition, tokens_of}
 use Rattle.x_compile.specs.Known.{KnownText}
 use Rattle.x_compile.proofs.Compiled.{one_compilation}

@@ -50,7 +50,8 @@ symbol_data kind name range selection children = object
 -- ---- the symbols of a definition
 
 -- the symbol of a part by its name's token, and by the ranges of its first token, its name and its last
-abbrev pub symbol_by : PartKind → (token : Option Lexeme) → (first name last : Option Range) → Data → Option Data
+abbrev pub symbol_by : PartKind → (token : Option Lexeme) → (first name last : Option Range) → Data
+    → Option Data
 symbol_by kind (Some token) (Some first) (Some name) (Some last) children = Some (symbol_data kind
     (utf8_lossy token.text) (range_data first.start last.end) (range_data name.start name.end) children)
 symbol_by kind (Some token) (Some first) (Some name) None children = None

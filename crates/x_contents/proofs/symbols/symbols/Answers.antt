@@ -3,7 +3,6 @@ use Rattle.serde_json.specs.Data.{array}
 use Rattle.serde_json.specs.View.{items_of}
 use Rattle.x_lex.specs.Places.{lexeme}
 use Rattle.x_trees.specs.View.{tree_at}
-use Rattle.x_positions.specs.Positions.{EncodedText}
 use Rattle.x_frames.specs.Plain.{listed}
 use Rattle.x_contents.specs.Symbols.{token_range, with_parsed}
 use Rattle.x_contents.proofs.SymbolLemmas.{HasTold, told_all, told_item, told_none}
