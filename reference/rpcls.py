@@ -48,6 +48,12 @@ MOST = 1_000
 INVALID_PARAMS = -32602
 CONTENT_MODIFIED = -32801
 REQUEST_FAILED = -32803
+# The `SymbolKind` of a definition or a part of one, and the number of what a token is.
+SYMBOL_KINDS = {"program": 2, "version": 3, "typedef": 5, "procedure": 6, "field": 8, "enum": 10, "constant": 14,
+                "enumerator": 22, "struct": 23, "union": 23}
+TOKEN_TYPES = {"Keyword": 0, "Comment": 1, "OpenComment": 1, "Number": 2, "Percent": 3, "Marker": 3, "Directive": 3,
+               "typedef": 4, "struct": 5, "union": 5, "enum": 6, "constant": 7, "enumerator": 7, "program": 8,
+               "version": 8, "procedure": 9, "field": 10}
 CAPABILITIES = {"textDocumentSync": {"openClose": True, "change": 2}}
 # Duplicate and RepeatedField.
 TWICE = (20, 32)
@@ -442,6 +448,105 @@ def hover(compilation, lines, byte):
     return {"contents": {"kind": "plaintext", "value": told}, "range": lines.range(token)}
 
 
+# ---------------------------------------------------------------- what a document contains
+
+def shape_of(definition):
+    """What a definition defines."""
+    if isinstance(definition, (rpclang.Const, rpclang.Program)):
+        return "constant" if isinstance(definition, rpclang.Const) else "program"
+    return "typedef" if isinstance(definition, rpclang.Typedef) else rpclang.shape_of(definition.body)
+
+
+def parts_and_whole(item, definition):
+    """The parts of a definition and the definition itself, if it has a name, those first that others stand in."""
+    own = rpclang.own_name(definition)
+    if own is None:
+        return []
+    words = [place for place, token in enumerate(item) if token.kind not in rpclang.PASSED_OVER]
+    whole = Part(words[0], own.place, words[-1], shape_of(definition), None)
+    return sorted([whole, *parts_of(item, definition)], key=lambda part: (part.first, -part.last))
+
+
+def symbols(lines, compilation):
+    """The definitions of a text, each with its parts where they stand in one another."""
+    top = []
+    for item, definition in zip(compilation.items, compilation.definitions):
+        around = []
+        for part in parts_and_whole(item, definition) if definition is not None else []:
+            while around and around[-1][0].last < part.first:
+                around.pop()
+            symbol = {
+                "name": item[part.name].text.decode(), "kind": SYMBOL_KINDS[part.told.split()[0]], "children": [],
+                "range": {"start": lines.place(item[part.first].start), "end": lines.place(item[part.last].end)},
+                "selectionRange": lines.range(item[part.name])}
+            (around[-1][1]["children"] if around else top).append(symbol)
+            around.append((part, symbol))
+    return top
+
+
+def folds(lines, compilation):
+    """Comments of several lines, what stands between braces in several lines, and lines behind one another that pass through."""
+    found, braces, run = [], [], []
+    fold = lambda first, last, **more: found.append({"startLine": first, "endLine": last} | more) if first < last else None
+    for token in [*(token for token in compilation.tokens if token.kind != "Space"), None]:
+        first, last = [lines.place(byte)["line"] for byte in (token.start, token.end)] if token else (None, None)
+        if token and token.kind == "Percent" and run[-1:] == [first - 1]:
+            run.append(last)
+            continue
+        if run:
+            fold(run[0], run[-1])
+        run = [first, last] if token and token.kind == "Percent" else []
+        if token and token.kind in ("Comment", "OpenComment"):
+            fold(first, last, kind="comment")
+        if token and (token.kind, token.text) == ("Punct", b"{"):
+            braces.append(first)
+        if token and (token.kind, token.text) == ("Punct", b"}") and braces:
+            opened = braces.pop()
+            fold(opened, first - 1 if first - 1 > opened else first)
+    return found
+
+
+def type_of_name(compilation, name):
+    """What a name is that is used: what declares it first."""
+    first = compilation.own.get(name)
+    if name in (b"TRUE", b"FALSE"):
+        return "constant"
+    return None if first is None or first.item < 0 else first.shape
+
+
+def typed_tokens(compilation):
+    """Each token with what it is, or None."""
+    for item, definition in zip(compilation.items, compilation.definitions):
+        told = [token.kind for token in item]
+        for mention in rpclang.mentioned(definition) if definition is not None else []:
+            told[mention.place] = type_of_name(compilation, mention.name)
+        for part in parts_and_whole(item, definition) if definition is not None else []:
+            told[part.name] = part.told.split()[0]
+        if definition is None:
+            told = [type_of_name(compilation, token.text) if token.kind == "Name" else token.kind for token in item]
+        yield from zip(item, map(TOKEN_TYPES.get, told))
+
+
+def token_numbers(lines, compilation):
+    """What each token is: of what stands of it in a line the lines and the characters from the one before, its units, its
+    type, and that it has no modifier."""
+    index = lambda byte: len(lines.bytes[:byte].translate(None, INNER))
+    numbers, before = [], {"line": 0, "character": 0}
+    for token, told in typed_tokens(compilation):
+        start, end = index(token.start), index(token.end)
+        for line in range(bisect.bisect_right(lines.starts, start) - 1, len(lines.starts)) if told is not None else []:
+            first, stop = max(start, lines.starts[line]), min(end, lines.stops[line])
+            units = sum(map(lines.width, lines.characters[first:stop]))
+            if lines.starts[line] > end:
+                break
+            if units:
+                at = lines.position(first)
+                same = at["line"] == before["line"]
+                numbers += [at["line"] - before["line"], at["character"] - same * before["character"], units, told, 0]
+                before = at
+    return {"data": numbers}
+
+
 def written(compilation, uri, which):
     """A generated text, or the faults, one a line."""
     if which == "faults":
@@ -563,6 +668,8 @@ class Server:
     def found(self, lines, compilation, name, uri, params):
         if name == "text":
             return written(compilation, uri, params["which"])
+        if name in ("documentSymbol", "foldingRange", "semanticTokens/full"):
+            return {"documentSymbol": symbols, "foldingRange": folds}.get(name, token_numbers)(lines, compilation)
         if name == "hover":
             return hover(compilation, lines, lines.byte(params["position"]))
         sought = name_at(compilation, lines.byte(params["position"]))
