@@ -11,7 +11,7 @@ ghost use Rattle.x_contents.specs.TokenKinds.{number_data, numbers_of};
 
 use serde_json::{Value, json};
 use std::alloc::Global;
-use x_declared::{definitions, names};
+use x_declared::definitions;
 use x_frames::PlainList;
 use x_item::{Glossary, NameKind, is_significant, next_item};
 use x_lex::{Kind, Token};
@@ -109,10 +109,9 @@ pub(crate) fn token_kinds(
     ensures { IfOk result (λ v. has_float (view v) ≡ false) }
 {
     let definitions = definitions(alloc, session)?;
-    let names = names(alloc, session)?;
+    let names = Names::keyed(alloc, session.hash_key(), &definitions)?;
     let mut told = ToldTokens {
         data: PlainList::new(alloc),
-        shown: shown.bytes(),
         places: Places::of(encoding, shown.bytes()),
         before: FIRST,
     };
@@ -210,8 +209,6 @@ fn put_kind(kinds: &mut Vec<Option<TokenKind>>, index: usize, kind: Option<Token
 #[derive(Drop)]
 struct ToldTokens<'s> {
     data: PlainList,
-    /// The text that is shown.
-    shown: &'s [u8],
     places: Places<'s>,
     /// The start of the token that was told last.
     before: Position,
@@ -231,10 +228,8 @@ impl ToldTokens<'_> {
     /// Adds a token that stands next, line by line.
     fn add(&mut self, token: &Token, kind: TokenKind) -> Result<(), NoMemory> {
         let mut start = token.start;
-        // Where lines of cpp are blanked, no carriage return is left in what is compiled.
-        let shown = self.shown.get(token.start..token.end).unwrap_or(&[]);
-        for (index, byte) in shown.iter().enumerate() {
-            let is_pair = shown.get(index.saturating_add(1)) == Some(&b'\n');
+        for (index, byte) in token.text.iter().enumerate() {
+            let is_pair = token.text.get(index.saturating_add(1)) == Some(&b'\n');
             if *byte == b'\n' || (*byte == b'\r' && !is_pair) {
                 let end = token.start.saturating_add(index);
                 self.add_part(start, end, kind)?;

@@ -16,6 +16,6 @@ pub use name_places::{Sought, find_names};
 pub use parts::{Part, PartKind, parts_of};
 pub use sizes::Size;
 pub use surroundings::{Expected, expected_at};
-pub use text_names::{FoundName, declared_name_at};
+pub use text_names::{FoundName, declared_name_at, names};
 pub use text_sink::TextSink;
 pub use unparsed::unparsed_use;

@@ -1,4 +1,4 @@
-//! The name at a place of a text, with its first declarer.
+//! The names of a text, each with its first declarer.
 
 ghost use Rattle.std.specs.Prelude.{◌≡◌, IfOk, option_map};
 ghost use Rattle.x_lex.specs.Places.{lexeme};
@@ -7,10 +7,21 @@ ghost use Rattle.x_lookups.specs.NamePlaces.{named_by, token_at};
 
 use crate::name_places::{Sought, find_names};
 use std::alloc::Global;
+use x_declared::definitions;
 use x_lex::Token;
 use x_names::{Declarer, Names};
 use x_session::Session;
 use x_text::NoMemory;
+
+/// The names that a text declares.
+///
+/// # Errors
+///
+/// [`NoMemory`] where a table could not grow.
+pub fn names(alloc: Global, session: &Session) -> Result<Names<'_>, NoMemory> {
+    let definitions = definitions(alloc, session)?;
+    Names::keyed(alloc, session.hash_key(), &definitions)
+}
 
 /// A word that is a name which the text declares, and where it is declared first.
 #[derive(Clone, Copy, Debug)]

@@ -12,7 +12,7 @@ use crate::open_text::OpenText;
 use serde_json::{Value, json};
 use std::alloc::Global;
 use std::str;
-use x_declared::{definitions, names};
+use x_declared::definitions;
 use x_frames::PlainList;
 use x_item::{DeclaredName, Definition, Glossary, NameKind};
 use x_lookups::{Expected, expected_at};
@@ -91,7 +91,7 @@ fn add_names(
     expected: Expected,
 ) -> Result<(), NoMemory> {
     let definitions = definitions(alloc, session)?;
-    let names = names(alloc, session)?;
+    let names = Names::keyed(alloc, session.hash_key(), &definitions)?;
     let mut glossary = Glossary::new(alloc);
     for item in 0..definitions.len() {
         if let Some(definition) = definitions[item] {

@@ -11,12 +11,11 @@ use crate::open_text::OpenText;
 use serde_json::{Value, json};
 use std::alloc::{AllocError, Global};
 use std::collections::BTreeMap;
-use x_declared::names;
 use x_frames::{ErrorCode, PlainList};
 use x_item::{DeclaredName, Glossary, NameKind, lifted_name};
 use x_lex::{Kind, Token, lex_one};
 use x_lookups::{
-    Sought, declared_name_at, find_names, is_lifted_name, unparsed_use, unparsed_use_at,
+    Sought, declared_name_at, find_names, is_lifted_name, names, unparsed_use, unparsed_use_at,
 };
 use x_names::{Names, is_beforehand};
 use x_positions::{Encoding, Places, range_value};
