@@ -351,7 +351,8 @@ def told_first(lines, item):
     line = lambda byte: lines.place(byte)["line"]
     lead = [token for token in itertools.takewhile(lambda token: token.kind in rpclang.PASSED_OVER, item)]
     word = item[len(lead)]
-    lead, run = [token for token in lead if token.kind != "Space"], [word]
+    lead = [token for token in lead if token.kind != "Space"]
+    run = [word]
     while lead and lead[-1].kind == "Comment" and line(run[0].start) - line(lead[-1].end) <= 1:
         run.insert(0, lead.pop())
     while run[0] is not word and not begins_line(lines, run[0]):
