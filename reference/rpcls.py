@@ -38,6 +38,8 @@ SIZE_TOLD = re.compile("\n\n(at least )?[0-9]+ bytes, height(?= [0-9]+$)")
 # How many lines are told of a definition at most.
 MOST_TOLD = 20
 INNER = bytes(range(0x80, 0xc0))
+# A byte order mark.
+MARK = "\ufeff".encode()
 # How many units a character counts, by what a client and a server agree on.
 WIDTHS = {"utf-8": lambda character: len(character.encode()), "utf-16": lambda character: 1 + (character > "\uffff")}
 GREATEST_TEXT = 16_777_216
@@ -148,6 +150,8 @@ class Setting:
         constant that stands before it."""
         known = self.known
         if self.blanks:
+            if text.startswith(MARK):
+                text = b"   " + text.removeprefix(MARK)
             constants = b"".join(b"const %s = %s;\n" % pair for pair in directives.defined(text))
             if constants:
                 known = rpclang.Compilation(constants, known).known_behind(None)

@@ -1,1 +1,3 @@
+mod FoldLemmas
 mod SymbolLemmas
+mod TokenLemmas

@@ -1,6 +1,7 @@
 -- Which lines of a document can be folded away (LSP 3.17, `textDocument/foldingRange`).
 use Rattle.std.specs.Prelude.{ℕ, ◌+◌, ◌-◌, ◌^◌, ◌==◌, min, Bool, true, false, List, [], ◌∷◌, ◌++◌}
-use Rattle.std.specs.Prelude.{length, take, slice_get, Option, None, Some, codes, nat_lt, if◌then◌else◌}
+use Rattle.std.specs.Prelude.{length, map, take, slice_get, Option, None, Some, codes, decimal, nat_lt}
+use Rattle.std.specs.Prelude.{if◌then◌else◌}
 use Rattle.serde_json.specs.Data.{Data, number, string, object, member, no_members, unsigned}
 use Rattle.x_lex.specs.Marks.{mark_of}
 use Rattle.x_lex.specs.Places.{Lexeme}
@@ -9,21 +10,26 @@ use Rattle.x_lex.specs.declared.kind.Kind.TheVariants as kinds
 use Rattle.x_lex.specs.declared.mark.Mark.{Mark}
 use Rattle.x_lex.specs.declared.mark.Mark.TheVariants as marks
 use Rattle.x_positions.specs.Positions.{lines_before}
+use Rattle.x_contents.specs.declared.folds.Fold.{Fold}
 use Rattle.x_contents.specs.declared.folds.Lines.{Lines}
 
 -- a `FoldingRange`, of a comment or of something else
-abbrev pub fold_data : Lines → (comment : Bool) → Data
-fold_data lines true = object (member (codes "endLine") (number (unsigned lines.last))
+abbrev pub range_data : Lines → (comment : Bool) → Data
+range_data lines true = object (member (codes "endLine") (number (unsigned lines.last))
     (member (codes "kind") (string (codes "comment"))
     (member (codes "startLine") (number (unsigned lines.first)) no_members)))
-fold_data lines false = object (member (codes "endLine") (number (unsigned lines.last))
+range_data lines false = object (member (codes "endLine") (number (unsigned lines.last))
     (member (codes "startLine") (number (unsigned lines.first)) no_members))
 
--- lines are folded where there is more than one
-abbrev pub folds_of : Lines → (comment : Bool) → List Data
-folds_of lines comment = if nat_lt lines.first lines.last then fold_data lines comment ∷ [] else []
+abbrev pub fold_data : Fold → Data
+fold_data fold = range_data fold.lines fold.comment
 
-abbrev pub folds_if : Option Lines → List Data
+-- lines are folded where there is more than one
+abbrev pub folds_of : Lines → (comment : Bool) → List Fold
+folds_of lines comment =
+    if nat_lt lines.first lines.last then record { lines = lines; comment = comment } ∷ [] else []
+
+abbrev pub folds_if : Option Lines → List Fold
 folds_if None = []
 folds_if (Some lines) = folds_of lines false
 
@@ -38,7 +44,7 @@ lines_inside front rear = record {
 
 -- the folds so far, the lines of the braces that are open, and lines behind one another that begin with `%`
 pub record Folding : Type 0 where
-  pub folds : List Data
+  pub folds : List Fold
   pub braces : List ℕ
   pub passed_on : Option Lines
 
@@ -82,10 +88,23 @@ read_as f kind lines mark = ended f
 abbrev pub read : (shown : List ℕ) → Folding → Lexeme → Folding
 read shown f t = read_as f t.kind (lines_of shown t) (mark_of t.text)
 
-abbrev pub folds_from : (shown : List ℕ) → Folding → List Lexeme → List Data
+abbrev pub folds_from : (shown : List ℕ) → Folding → List Lexeme → List Fold
 folds_from shown f [] = (ended f).folds
 folds_from shown f (t ∷ ts) = folds_from shown (read shown f t) ts
 
--- the folds of a text with these tokens, as it is shown
+-- what is folded of a text with these tokens, as it is shown; and how that is told
+abbrev pub found_in : (shown : List ℕ) → List Lexeme → List Fold
+found_in shown tokens = folds_from shown (record { folds = []; braces = []; passed_on = None }) tokens
+
 abbrev pub folds_in : (shown : List ℕ) → List Lexeme → List Data
-folds_in shown tokens = folds_from shown (record { folds = []; braces = []; passed_on = None }) tokens
+folds_in shown tokens = map fold_data (found_in shown tokens)
+
+-- ---- as it is written (RFC 8259)
+
+abbrev pub kind_text : (comment : Bool) → List ℕ
+kind_text comment = if comment then codes ",\"kind\":\"comment\"" else []
+
+-- with a comma behind it
+abbrev pub fold_text : Fold → List ℕ
+fold_text fold = (codes "{\"endLine\":" ++ decimal fold.lines.last ++ kind_text fold.comment
+    ++ codes ",\"startLine\":" ++ decimal fold.lines.first ++ codes "}") ++ codes ","

@@ -1,20 +1,24 @@
--- What the tokens of a document are (LSP 3.17, `textDocument/semanticTokens/full`).
-use Rattle.std.specs.Prelude.{ℕ, ◌-◌, ◌==◌, List, [], ◌∷◌, Option, None, Some, if◌then◌else◌}
-use Rattle.serde_json.specs.Data.{Data, number, unsigned}
+-- What kinds of token there are in a document (LSP 3.17, `textDocument/semanticTokens`).
+use Rattle.std.specs.Prelude.{ℕ, ◌+◌, List, [], ◌∷◌, map, slice_get, slice_set, Option, None, Some}
+use Rattle.std.specs.Prelude.{if◌then◌else◌}
+use Rattle.x_lex.specs.Places.{Lexeme}
 use Rattle.x_lex.specs.declared.kind.Kind.{Kind}
 use Rattle.x_lex.specs.declared.kind.Kind.TheVariants as kinds
+use Rattle.x_trees.specs.Mentions.{Mention, mentioned}
+use Rattle.x_trees.specs.Tree.{Definition}
+use Rattle.x_trees.specs.Words.{is_significant}
 use Rattle.x_trees.specs.declared.names.declared_name.NameKind.{NameKind}
 use Rattle.x_trees.specs.declared.names.declared_name.NameKind.TheVariants as names
-use Rattle.x_names.specs.DeclarerTable.{first_in}
 use Rattle.x_names.specs.declared.names.Declarer.{Declarer}
 use Rattle.x_names.specs.Declarers.{is_beforehand}
+use Rattle.x_lookups.specs.Parts.{parts_of}
+use Rattle.x_lookups.specs.declared.parts.Part.{Part}
 use Rattle.x_lookups.specs.declared.parts.PartKind.{PartKind}
 use Rattle.x_lookups.specs.declared.parts.PartKind.TheVariants as parts
-use Rattle.x_positions.specs.declared.positions.Position.{Position}
-use Rattle.x_contents.specs.declared.token_kinds.TokenKind.{TokenKind}
-use Rattle.x_contents.specs.declared.token_kinds.TokenKind.TheVariants.{Keyword, Comment, Number, Macro}
-use Rattle.x_contents.specs.declared.token_kinds.TokenKind.TheVariants.{«Type», Struct, Enum, EnumMember}
-use Rattle.x_contents.specs.declared.token_kinds.TokenKind.TheVariants.{Namespace, Method, Property}
+use Rattle.x_contents.specs.declared.tokens.TokenKind.{TokenKind}
+use Rattle.x_contents.specs.declared.tokens.TokenKind.TheVariants.{Keyword, Comment, Number, Macro}
+use Rattle.x_contents.specs.declared.tokens.TokenKind.TheVariants.{«Type», Struct, Enum, EnumMember}
+use Rattle.x_contents.specs.declared.tokens.TokenKind.TheVariants.{Namespace, Method, Property}
 
 -- what a token is wherever it stands
 abbrev pub kind_alone : Kind → Option TokenKind
@@ -57,9 +61,46 @@ abbrev pub kind_by : Option Declarer → Option TokenKind
 kind_by None = None
 kind_by (Some declarer) = Some (kind_declared declarer.kind)
 
--- what a name is that is used: what declares it first; TRUE and FALSE are constants
-abbrev pub kind_used : List (List ℕ × Declarer) → List ℕ → Option TokenKind
-kind_used table name = if is_beforehand name then Some EnumMember else kind_by (first_in table name)
+-- what a name is that is used: by what declares it first; TRUE and FALSE are constants
+abbrev pub kind_used : (first : List ℕ → Option Declarer) → List ℕ → Option TokenKind
+kind_used first name = if is_beforehand name then Some EnumMember else kind_by (first name)
+
+-- ---- the tokens of an item
+
+-- the places of the words among tokens, where the first of these has this place
+abbrev pub word_places : ℕ → List Lexeme → List ℕ
+word_places at [] = []
+word_places at (t ∷ ts) =
+    if is_significant t.kind then at ∷ word_places (at + 1) ts else word_places (at + 1) ts
+
+-- the token at a place, if there is one, is of this kind
+abbrev pub with_kind : List (Option TokenKind) → (place : Option ℕ) → Option TokenKind → List (Option TokenKind)
+with_kind kinds None kind = kinds
+with_kind kinds (Some place) kind = slice_set kinds place kind
+
+-- the names that a definition uses, at its words
+abbrev pub with_uses : (first : List ℕ → Option Declarer) → (words : List ℕ) → List (Option TokenKind)
+    → List Mention → List (Option TokenKind)
+with_uses first words kinds [] = kinds
+with_uses first words kinds (m ∷ ms) =
+    with_uses first words (with_kind kinds (slice_get words m.word) (kind_used first m.name)) ms
+
+-- the names of its parts
+abbrev pub with_parts : List (Option TokenKind) → List Part → List (Option TokenKind)
+with_parts kinds [] = kinds
+with_parts kinds (p ∷ ps) = with_parts (slice_set kinds p.name (Some (kind_of_part p.kind))) ps
+
+-- what a token is in an item that has no definition: every name is used
+abbrev pub kind_unparsed : (first : List ℕ → Option Declarer) → Kind → (text : List ℕ) → Option TokenKind
+kind_unparsed first kinds.Name text = kind_used first text
+kind_unparsed first kind text = kind_alone kind
+
+-- what the tokens of an item are
+abbrev pub kinds_in : (first : List ℕ → Option Declarer) → List Lexeme → Option Definition
+    → List (Option TokenKind)
+kinds_in first tokens None = map (λ t. kind_unparsed first t.kind t.text) tokens
+kinds_in first tokens (Some d) = with_parts (with_uses first (word_places 0 tokens)
+    (map (λ t. kind_alone t.kind) tokens) (mentioned d)) (parts_of tokens)
 
 -- the type of a token, by its place in the list of them that the server tells
 abbrev pub type_of : TokenKind → ℕ
@@ -74,19 +115,3 @@ type_of EnumMember = 7
 type_of Namespace = 8
 type_of Method = 9
 type_of Property = 10
-
--- the characters from the start of the last token, if that stands in the same line, or from the line's
--- start
-abbrev pub characters_from : (before start : Position) → ℕ
-characters_from before start =
-    if start.line - before.line == 0 then start.character - before.character else start.character
-
--- the numbers of what stands of a token in one line, from one position to another; none where it is empty
-abbrev pub numbers_of : (before start end : Position) → TokenKind → List ℕ
-numbers_of before start end kind =
-    if end.character - start.character == 0 then [] else
-    ((start.line - before.line) ∷ characters_from before start ∷ (end.character - start.character)
-    ∷ type_of kind ∷ 0 ∷ [])
-
-abbrev pub number_data : ℕ → Data
-number_data n = number (unsigned n)

@@ -1,23 +1,25 @@
 //! What is answered to questions about a whole document.
 
-ghost use Rattle.std.specs.Prelude.{◌≡◌, false, true, IfErr, IfOk, IfSome, option_map};
+ghost use Rattle.std.specs.Prelude.{◌≡◌, true, IfErr, IfOk, IfSome, option_map};
 ghost use Rattle.std.specs.Str.Lossy.{utf8_lossy};
 ghost use Rattle.serde_json.specs.Data.{array, string};
 ghost use Rattle.serde_json.specs.View.{items_of, view};
-ghost use Rattle.serde_json.specs.Written.{has_float};
+ghost use Rattle.serde_json.specs.Written.{compact_text};
 ghost use Rattle.x_compile.specs.Compile.{tokens_of};
 ghost use Rattle.x_session.specs.Session.{Compiles};
+ghost use Rattle.x_frames.specs.Answers.{IsText};
 ghost use Rattle.x_frames.specs.Lives.{is_of_question};
-ghost use Rattle.x_frames.specs.declared.method.DocumentQuestion.TheVariants.{Folds, Symbols, Text};
+ghost use Rattle.x_frames.specs.declared.method.DocumentQuestion.TheVariants.{Folds, Symbols, Text, Tokens};
 ghost use Rattle.x_contents.specs.DocumentTexts.{told_text};
 ghost use Rattle.x_contents.specs.Folds.{folds_in};
 ghost use Rattle.x_contents.specs.Symbols.{symbols_in};
+ghost use Rattle.x_contents.specs.Tokens.{numbers_in, tokens_data};
 ghost use Rattle.x_contents.specs.Wanting.{wanted_in};
 
 use crate::folds::folds;
 use crate::generated::text;
 use crate::symbols::symbols;
-use crate::token_kinds::token_kinds;
+use crate::tokens::tokens;
 use crate::wanted::which_in;
 use serde_json::Value;
 use std::alloc::Global;
@@ -26,7 +28,8 @@ use x_positions::Encoding;
 use x_session::Session;
 use x_text::Source;
 
-/// The result of a question about a whole document, whose text is shown, and compiled in the session.
+/// The result of a question about a whole document, whose text is shown, and compiled in the session: as JSON.
+/// It is written as it is found.
 ///
 /// # Errors
 ///
@@ -38,21 +41,24 @@ pub fn answer_about_document(
     session: &Session,
     question: DocumentQuestion,
     params: Option<&Value>,
-) -> Result<Value, ErrorCode>
-    ensures value { IfOk result (λ v. has_float (view v) ≡ false) }
+) -> Result<Vec<u8>, ErrorCode>
+    ensures value { IfOk result (λ text. IsText text.items) }
     ensures code { IfErr result (λ code. is_of_question code ≡ true) }
-    ensures symbols { question ≡ Symbols → IfOk result (λ v. Compiles session.now.known session.now.text
-        (λ items. view v ≡ array (items_of (symbols_in encoding shown.now items)))) }
-    ensures folds { question ≡ Folds → IfOk result (λ v. Compiles session.now.known session.now.text
-        (λ items. view v ≡ array (items_of (folds_in shown.now (tokens_of items))))) }
+    ensures symbols { question ≡ Symbols → IfOk result (λ text. Compiles session.now.known session.now.text
+        (λ items. text.items ≡ compact_text (array (items_of (symbols_in encoding shown.now items))))) }
+    ensures folds { question ≡ Folds → IfOk result (λ text. Compiles session.now.known session.now.text
+        (λ items. text.items ≡ compact_text (array (items_of (folds_in shown.now (tokens_of items)))))) }
+    ensures tokens { question ≡ Tokens → IfOk result (λ text. Compiles session.now.known session.now.text
+        (λ items. text.items ≡ compact_text (tokens_data (numbers_in encoding shown.now items)))) }
     ensures text { question ≡ Text → IfSome (wanted_in (option_map (λ p. view p.now) params.entry))
-        (λ wanted. IfOk result (λ v. Compiles session.now.known session.now.text (λ items. view v
-        ≡ string (utf8_lossy (told_text wanted session.now.base session.now.text items))))) }
+        (λ wanted. IfOk result (λ text. Compiles session.now.known session.now.text
+        (λ items. text.items ≡ compact_text
+        (string (utf8_lossy (told_text wanted session.now.base session.now.text items)))))) }
 {
     match question {
         DocumentQuestion::Symbols => Ok(symbols(alloc, encoding, shown, session)?),
         DocumentQuestion::Folds => Ok(folds(alloc, shown, session)?),
-        DocumentQuestion::Tokens => Ok(token_kinds(alloc, encoding, shown, session)?),
+        DocumentQuestion::Tokens => Ok(tokens(alloc, encoding, shown, session)?),
         DocumentQuestion::Text => match which_in(params) {
             Some(wanted) => Ok(text(alloc, session, wanted)?),
             None => Err(ErrorCode::InvalidParams),

@@ -1,33 +1,39 @@
 //! Which lines of a document can be folded away.
 
-ghost use Rattle.std.specs.Prelude.{◌≡◌, false, IfOk, OnOk};
+ghost use Rattle.std.specs.Prelude.{◌≡◌, ◌++◌, map, IfOk, OnOk};
 ghost use Rattle.serde_json.specs.Data.{array};
-ghost use Rattle.serde_json.specs.View.{items_of, view};
-ghost use Rattle.serde_json.specs.Written.{has_float};
+ghost use Rattle.serde_json.specs.View.{items_of};
+ghost use Rattle.serde_json.specs.Written.{compact_text};
 ghost use Rattle.x_lex.specs.Places.{lexeme};
 ghost use Rattle.x_compile.specs.Compile.{tokens_of};
 ghost use Rattle.x_session.specs.Session.{Compiles};
-ghost use Rattle.x_contents.specs.Folds.{ended, fold_data, folds_in, lines_inside, passed_on, read};
-ghost use Rattle.x_contents.specs.Folds.{with_fold, with_mark};
+ghost use Rattle.x_contents.specs.Folds.{ended, fold_data, fold_text, folds_in, found_in, kind_text};
+ghost use Rattle.x_contents.specs.Folds.{lines_inside, passed_on, read, with_fold, with_mark};
 ghost use Rattle.x_contents.specs.Reading.{folding_of};
 
-use serde_json::{Value, json};
 use std::alloc::Global;
-use x_frames::PlainList;
+use x_frames::{end_list, write_number};
 use x_lex::{Kind, Mark, Token};
 use x_positions::{Encoding, Places};
 use x_session::Session;
 use x_text::{NoMemory, Source};
 
 /// A `FoldingRange` of each part of a document that has more than one line.
-pub(crate) fn folds(alloc: Global, shown: &Source, session: &Session) -> Result<Value, NoMemory>
-    ensures plain { IfOk result (λ v. has_float (view v) ≡ false) }
-    ensures folds { IfOk result (λ v. Compiles session.now.known session.now.text
-        (λ items. view v ≡ array (items_of (folds_in shown.now (tokens_of items))))) }
+pub(crate) fn folds(alloc: Global, shown: &Source, session: &Session) -> Result<Vec<u8>, NoMemory>
+    ensures { IfOk result (λ text. Compiles session.now.known session.now.text
+        (λ items. text.items ≡ compact_text (array (items_of (folds_in shown.now (tokens_of items)))))) }
+{
+    let folds = found_folds(alloc, shown, session)?;
+    folds_text(alloc, &folds)
+}
+
+/// What can be folded away.
+fn found_folds(alloc: Global, shown: &Source, session: &Session) -> Result<Vec<Fold>, NoMemory>
+    ensures { IfOk result (λ folds. Compiles session.now.known session.now.text
+        (λ items. folds.items ≡ found_in shown.now (tokens_of items))) }
 {
     let mut reader = FoldReader {
-        alloc,
-        folds: PlainList::new(alloc),
+        folds: Vec::new(alloc),
         places: Places::of(Encoding::Utf8, shown.bytes()),
         braces: Vec::new(alloc),
         passed_on: None,
@@ -36,7 +42,7 @@ pub(crate) fn folds(alloc: Global, shown: &Source, session: &Session) -> Result<
         reader.read(&token)?;
     }
     reader.end_passed_on()?;
-    Ok(reader.folds.into_value())
+    Ok(reader.folds)
 }
 
 /// Lines from one to another.
@@ -46,11 +52,17 @@ struct Lines {
     last: usize,
 }
 
+/// Lines that can be folded away.
+#[derive(Clone, Copy, Debug)]
+struct Fold {
+    lines: Lines,
+    comment: bool,
+}
+
 /// Finds what can be folded away, token by token.
 #[derive(Drop)]
 struct FoldReader<'s> {
-    alloc: Global,
-    folds: PlainList,
+    folds: Vec<Fold>,
     places: Places<'s>,
     /// The lines of the braces that are open.
     braces: Vec<usize>,
@@ -135,8 +147,7 @@ impl FoldReader<'_> {
         ensures places { self.new.places ≡ self.old.places }
     {
         if lines.first < lines.last {
-            let fold = fold(self.alloc, lines, comment)?;
-            self.folds.push(fold)?;
+            self.folds.push(Fold { lines, comment })?;
         }
         Ok(())
     }
@@ -153,14 +164,39 @@ fn inside(opening: usize, closing: usize) -> Lines
     }
 }
 
-/// A `FoldingRange`.
-fn fold(alloc: Global, lines: Lines, comment: bool) -> Result<Value, NoMemory>
-    ensures { IfOk result (λ v. view v ≡ fold_data lines comment) }
+/// The text of folds.
+fn folds_text(alloc: Global, folds: &[Fold]) -> Result<Vec<u8>, NoMemory>
+    ensures { IfOk result
+        (λ text. text.items ≡ compact_text (array (items_of (map fold_data folds.now)))) }
 {
-    let first = lines.first;
-    let last = lines.last;
-    if comment {
-        return Ok(json!(in alloc; {"endLine": last, "kind": "comment", "startLine": first})?);
+    let mut text = Vec::from_slice(alloc, b"[")?;
+    for fold in folds {
+        write_fold(&mut text, *fold)?;
     }
-    Ok(json!(in alloc; {"endLine": last, "startLine": first})?)
+    end_list(&mut text)?;
+    Ok(text)
+}
+
+/// Writes the kind of a fold, which that of a comment has.
+fn write_kind(text: &mut Vec<u8>, comment: bool) -> Result<(), NoMemory>
+    ensures { OnOk result (text.new.items ≡ text.old.items ++ kind_text comment) }
+{
+    if comment {
+        text.extend_from_slice(b",\"kind\":\"comment\"")?;
+    }
+    Ok(())
+}
+
+/// Writes a `FoldingRange`, with a comma behind it.
+fn write_fold(text: &mut Vec<u8>, fold: Fold) -> Result<(), NoMemory>
+    ensures { OnOk result (text.new.items ≡ text.old.items ++ fold_text fold) }
+{
+    text.extend_from_slice(b"{\"endLine\":")?;
+    write_number(text, fold.lines.last)?;
+    write_kind(text, fold.comment)?;
+    text.extend_from_slice(b",\"startLine\":")?;
+    write_number(text, fold.lines.first)?;
+    text.extend_from_slice(b"}")?;
+    text.extend_from_slice(b",")?;
+    Ok(())
 }

@@ -1,11 +1,10 @@
 //! What is told of a document as a text: what is generated of it, or its faults.
 
-ghost use Rattle.std.specs.Prelude.{◌≡◌, false, IfOk};
+ghost use Rattle.std.specs.Prelude.{◌≡◌, IfOk};
 ghost use Rattle.std.specs.List.{flat_map};
 ghost use Rattle.std.specs.Str.Lossy.{utf8_lossy};
 ghost use Rattle.serde_json.specs.Data.{string};
-ghost use Rattle.serde_json.specs.View.{view};
-ghost use Rattle.serde_json.specs.Written.{has_float};
+ghost use Rattle.serde_json.specs.Written.{compact_text};
 ghost use Rattle.x_streams.specs.Writing.{Adds};
 ghost use Rattle.x_compile.specs.Compile.{faults_of};
 ghost use Rattle.x_compile.specs.Generated.{text_of};
@@ -20,15 +19,23 @@ use x_lookups::TextSink;
 use x_session::{Fault, Session, Which, add_place};
 use x_text::{NoMemory, Pen, Sink};
 
-/// A generated text of a document, or its faults, one a line. What is no UTF-8 is replaced, as a string of
-/// JSON needs it.
-pub(crate) fn text(alloc: Global, session: &Session, wanted: Wanted) -> Result<Value, NoMemory>
-    ensures plain { IfOk result (λ v. has_float (view v) ≡ false) }
-    ensures told { IfOk result (λ v. Compiles session.now.known session.now.text
-        (λ items. view v ≡ string (utf8_lossy (told_text wanted session.now.base session.now.text items)))) }
+/// A generated text of a document, or its faults, one a line, as a string of JSON. What is no UTF-8 is
+/// replaced, as that needs it.
+pub(crate) fn text(alloc: Global, session: &Session, wanted: Wanted) -> Result<Vec<u8>, NoMemory>
+    ensures { IfOk result (λ text. Compiles session.now.known session.now.text
+        (λ items. text.items ≡ compact_text
+        (string (utf8_lossy (told_text wanted session.now.base session.now.text items))))) }
 {
     let bytes = told_text(alloc, session, wanted)?;
-    Ok(Value::String(String::from_utf8_lossy(alloc, &bytes)?))
+    string_text(alloc, &bytes)
+}
+
+/// The text of bytes as a string of JSON.
+pub(crate) fn string_text(alloc: Global, bytes: &[u8]) -> Result<Vec<u8>, NoMemory>
+    ensures { IfOk result (λ text. text.items ≡ compact_text (string (utf8_lossy bytes.now))) }
+{
+    let string = Value::String(String::from_utf8_lossy(alloc, bytes)?);
+    Ok(string.to_vec(alloc)?)
 }
 
 /// What is told of a text.

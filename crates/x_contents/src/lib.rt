@@ -6,7 +6,7 @@ mod answers;
 mod folds;
 mod generated;
 mod symbols;
-mod token_kinds;
+mod tokens;
 mod wanted;
 
 pub use answers::answer_about_document;

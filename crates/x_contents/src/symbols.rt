@@ -1,29 +1,32 @@
 //! What a document defines, as an outline shows it.
 
-ghost use Rattle.std.specs.Prelude.{◌≡◌, false, map, option_map, IfOk, IfSome, OnOk};
+ghost use Rattle.std.specs.Prelude.{◌≡◌, ◌++◌, codes, map, option_map, slice_get, IfOk, OnOk};
 ghost use Rattle.std.specs.Str.Lossy.{utf8_lossy};
 ghost use Rattle.serde_json.specs.Data.{array};
-ghost use Rattle.serde_json.specs.View.{items_of, view};
-ghost use Rattle.serde_json.specs.Written.{has_float};
+ghost use Rattle.serde_json.specs.View.{items_of};
+ghost use Rattle.serde_json.specs.Written.{compact_text};
 ghost use Rattle.x_lex.specs.Places.{lexeme};
 ghost use Rattle.x_trees.specs.View.{tree_at};
 ghost use Rattle.x_session.specs.Session.{Compiles};
-ghost use Rattle.x_positions.specs.PositionData.{range_data};
-ghost use Rattle.x_frames.specs.Plain.{listed};
+ghost use Rattle.x_lookups.specs.Parts.{parts_of};
 ghost use Rattle.x_contents.specs.Reading.{levels_of, outline_of};
-ghost use Rattle.x_contents.specs.Symbols.{children_in, is_below, last_of, left_in, symbol_data, symbol_kind};
-ghost use Rattle.x_contents.specs.Symbols.{symbol_of, symbols_in, token_range, with_definition, with_part};
-ghost use Rattle.x_contents.specs.Symbols.{with_parsed, with_sibling};
+ghost use Rattle.x_contents.specs.Symbols.{children_in, is_below, last_of, left_in, symbol_kind, symbols_in};
+ghost use Rattle.x_contents.specs.Symbols.{token_range, with_definition, with_part, with_sibling};
+ghost use Rattle.x_contents.specs.SymbolTexts.{no_text, position_text, range_text, symbol_text, text_by};
+ghost use Rattle.x_contents.specs.SymbolTexts.{text_of, with_text};
 
-use serde_json::{Value, json};
-use std::alloc::{AllocError, Global};
-use x_frames::PlainList;
+use crate::generated::string_text;
+use std::alloc::Global;
+use x_frames::{end_list, write_number};
 use x_item::{Definition, next_item};
 use x_lex::Token;
 use x_lookups::{Part, PartKind, parts_of};
-use x_positions::{Encoding, Places, Range, range_value};
+use x_positions::{Encoding, Places, Position, Range};
 use x_session::Session;
 use x_text::{NoMemory, Source};
+
+/// The room for the text of a symbol without those that stand in it. It grows where the name is long.
+const ROOM: usize = 256;
 
 /// What a document defines: a `DocumentSymbol` of each definition, with what stands in it.
 pub(crate) fn symbols(
@@ -31,12 +34,11 @@ pub(crate) fn symbols(
     encoding: Encoding,
     shown: &Source,
     session: &Session,
-) -> Result<Value, NoMemory>
-    ensures plain { IfOk result (λ v. has_float (view v) ≡ false) }
-    ensures symbols { IfOk result (λ v. Compiles session.now.known session.now.text
-        (λ items. view v ≡ array (items_of (symbols_in encoding shown.now items)))) }
+) -> Result<Vec<u8>, NoMemory>
+    ensures { IfOk result (λ text. Compiles session.now.known session.now.text
+        (λ items. text.items ≡ compact_text (array (items_of (symbols_in encoding shown.now items))))) }
 {
-    let mut symbols = PlainList::new(alloc);
+    let mut text = Vec::from_slice(alloc, b"[")?;
     let mut walk = session.tokens();
     let mut tokens = Vec::new(alloc);
     let mut ranges = Vec::new(alloc);
@@ -45,9 +47,10 @@ pub(crate) fn symbols(
         next_item(&mut tokens, &mut walk)?;
         put_ranges(&mut places, &tokens, &mut ranges)?;
         let definition = session.definition(item);
-        add_parsed(alloc, definition, &tokens, &ranges, &mut symbols)?;
+        write_parsed(alloc, definition, &tokens, &ranges, &mut text)?;
     }
-    Ok(symbols.into_value())
+    end_list(&mut text)?;
+    Ok(text)
 }
 
 /// Finds the ranges of tokens.
@@ -70,82 +73,84 @@ fn put_ranges(
     Ok(())
 }
 
-/// Adds the symbol of an item, if it has a definition.
-fn add_parsed(
+/// Writes the symbol of an item, if it has a definition.
+fn write_parsed(
     alloc: Global,
     definition: Option<&Definition>,
     tokens: &[Token],
     ranges: &[Range],
-    symbols: &mut PlainList,
+    text: &mut Vec<u8>,
 ) -> Result<(), NoMemory>
-    ensures { OnOk result (listed symbols.new
-        ≡ with_parsed (listed symbols.old) (map lexeme tokens.now) ranges.now (tree_at definition.entry)) }
+    ensures { OnOk result (text.new.items
+        ≡ with_text text.old.items (map lexeme tokens.now) ranges.now (tree_at definition.entry)) }
 {
     match definition {
-        Some(_) => add_symbols(alloc, tokens, ranges, symbols),
+        Some(_) => write_definition(alloc, tokens, ranges, text),
         None => Ok(()),
     }
 }
 
-/// Adds the symbol of a definition.
-fn add_symbols(
+/// Writes the symbol of a definition.
+fn write_definition(
     alloc: Global,
     tokens: &[Token],
     ranges: &[Range],
-    symbols: &mut PlainList,
+    text: &mut Vec<u8>,
 ) -> Result<(), NoMemory>
-    ensures { OnOk result (listed symbols.new
-        ≡ with_definition (listed symbols.old) (map lexeme tokens.now) ranges.now) }
+    ensures { OnOk result (text.new.items ≡ with_definition no_text
+        (text_of (map lexeme tokens.now) ranges.now) text.old.items (parts_of (map lexeme tokens.now))) }
 {
     let mut levels = Vec::new(alloc);
     for part in &parts_of(alloc, tokens)? {
-        add_symbol(alloc, tokens, ranges, part, &mut levels, symbols)?;
+        write_part(alloc, tokens, ranges, part, &mut levels, text)?;
     }
     Ok(())
 }
 
-/// Adds the symbol of a part: to those of whole definitions, or to those whose parent is yet to come.
-fn add_symbol(
+/// Writes the symbol of a part: behind those of whole definitions, or behind those whose parent is yet to come.
+fn write_part(
     alloc: Global,
     tokens: &[Token],
     ranges: &[Range],
     part: &Part,
     levels: &mut Vec<Level>,
-    symbols: &mut PlainList,
+    text: &mut Vec<u8>,
 ) -> Result<(), NoMemory>
-    ensures { OnOk result (outline_of levels.new symbols.new
-        ≡ with_part (map lexeme tokens.now) ranges.now (outline_of levels.old symbols.old) part.now) }
+    ensures { OnOk result (outline_of levels.new text.new ≡ with_part no_text
+        (text_of (map lexeme tokens.now) ranges.now) (outline_of levels.old text.old) part.now) }
 {
-    let children = children_of(alloc, levels, part.depth);
-    let Some(symbol) = symbol_of(alloc, tokens, ranges, part, children)? else {
+    let mut children = children_of(alloc, levels, part.depth)?;
+    end_list(&mut children)?;
+    let Some(symbol) = symbol_of(alloc, tokens, ranges, part, &children)? else {
         return Ok(());
     };
     if part.depth == 0 {
-        symbols.push(symbol)
+        text.extend_from_slice(&symbol)?;
+        Ok(())
     } else {
-        add_to_level(alloc, levels, part.depth, symbol)
+        add_to_level(alloc, levels, part.depth, &symbol)
     }
 }
 
-/// Symbols at one depth, behind one another, whose parent is yet to come.
+/// The text of symbols at one depth, behind one another, whose parent is yet to come: a list that goes on.
 #[derive(Drop)]
 struct Level {
     depth: usize,
-    symbols: PlainList,
+    text: Vec<u8>,
 }
 
-/// Takes the symbols that stand in a part at a depth.
-fn children_of(alloc: Global, levels: &mut Vec<Level>, depth: usize) -> PlainList
-    ensures children { listed result ≡ children_in (levels_of levels.old.items) depth }
-    ensures left { levels_of levels.new.items ≡ left_in (levels_of levels.old.items) depth }
+/// Takes the text of what stands in a part at a depth.
+fn children_of(alloc: Global, levels: &mut Vec<Level>, depth: usize) -> Result<Vec<u8>, NoMemory>
+    ensures children { IfOk result
+        (λ text. text.items ≡ children_in no_text (levels_of levels.old.items) depth) }
+    ensures left { OnOk result (levels_of levels.new.items ≡ left_in (levels_of levels.old.items) depth) }
 {
-    if !is_below(levels, depth) {
-        return PlainList::new(alloc);
+    if is_below(levels, depth) {
+        if let Some(level) = levels.pop() {
+            return Ok(level.text);
+        }
     }
-    match levels.pop() {
-        Some(level) => level.symbols,
-        None => PlainList::new(alloc),
-    }
+    Ok(Vec::from_slice(alloc, b"[")?)
 }
 
 /// Whether the last symbols stand below a depth.
@@ -158,34 +163,33 @@ fn is_below(levels: &[Level], depth: usize) -> bool
     }
 }
 
-/// Adds a symbol at a depth, behind those that stand there.
+/// Adds the text of a symbol at a depth, behind those that stand there.
 fn add_to_level(
     alloc: Global,
     levels: &mut Vec<Level>,
     depth: usize,
-    symbol: Value,
+    symbol: &[u8],
 ) -> Result<(), NoMemory>
-    requires { has_float (view symbol) ≡ false }
     ensures { OnOk result
-        (levels_of levels.new.items ≡ with_sibling (levels_of levels.old.items) depth (view symbol)) }
+        (levels_of levels.new.items ≡ with_sibling no_text (levels_of levels.old.items) depth symbol.now) }
 {
-    let mut symbols = children_of(alloc, levels, depth.saturating_sub(1));
-    symbols.push(symbol)?;
-    levels.push(Level { depth, symbols })?;
+    let mut text = children_of(alloc, levels, depth.saturating_sub(1))?;
+    text.extend_from_slice(symbol)?;
+    levels.push(Level { depth, text })?;
     Ok(())
 }
 
-/// The symbol of a part, with those that stand in it.
+/// The text of a part's symbol, with those that stand in it, and a comma behind it.
 fn symbol_of(
     alloc: Global,
     tokens: &[Token],
     ranges: &[Range],
     part: &Part,
-    children: PlainList,
-) -> Result<Option<Value>, NoMemory>
-    ensures plain { IfOk result (λ found. IfSome found (λ v. has_float (view v) ≡ false)) }
-    ensures symbol { IfOk result (λ found. option_map view found
-        ≡ symbol_of (map lexeme tokens.now) ranges.now part.now (listed children)) }
+    children: &[u8],
+) -> Result<Option<Vec<u8>>, NoMemory>
+    ensures { IfOk result (λ found. option_map (λ text. text.items) found ≡ text_by part.now.kind
+        (slice_get (map lexeme tokens.now) part.now.name) (slice_get ranges.now part.now.first)
+        (slice_get ranges.now part.now.name) (slice_get ranges.now part.now.last) children.now) }
 {
     let Some(token) = tokens.get(part.name) else {
         return Ok(None);
@@ -203,57 +207,66 @@ fn symbol_of(
         start: first.start,
         end: last.end,
     };
-    let symbol = symbol(alloc, part.kind, token.text, &range, name, children)?;
-    Ok(Some(symbol))
+    Ok(Some(symbol_text(
+        alloc, part.kind, token.text, &range, name, children,
+    )?))
 }
 
-/// The symbol of a part of this name, with those that stand in it.
-fn symbol(
+/// The text of a symbol of this name, with those that stand in it, and a comma behind it.
+fn symbol_text(
     alloc: Global,
     kind: PartKind,
     name: &[u8],
     range: &Range,
     selection: &Range,
-    children: PlainList,
-) -> Result<Value, NoMemory>
-    ensures plain { IfOk result (λ v. has_float (view v) ≡ false) }
-    ensures symbol { IfOk result (λ v. view v ≡ symbol_data kind (utf8_lossy name.now)
-        (range_data range.now.start range.now.end) (range_data selection.now.start selection.now.end)
-        (array (items_of (listed children)))) }
+    children: &[u8],
+) -> Result<Vec<u8>, NoMemory>
+    ensures { IfOk result (λ text. text.items ≡ symbol_text kind (utf8_lossy name.now)
+        (range_text range.now range.now) (range_text selection.now selection.now) children.now
+        ++ codes ",") }
 {
-    let name = String::from_utf8_lossy(alloc, name)?;
-    let children = children.into_value();
-    let value = symbol_value(alloc, kind, name.as_str(), range, selection, children)?;
-    Ok(value)
+    let mut text = Vec::with_capacity(alloc, children.len().saturating_add(ROOM))?;
+    text.extend_from_slice(b"{\"children\":")?;
+    text.extend_from_slice(children)?;
+    text.extend_from_slice(b",\"kind\":")?;
+    write_number(&mut text, symbol_kind(kind))?;
+    text.extend_from_slice(b",\"name\":")?;
+    text.extend_from_slice(&string_text(alloc, name)?)?;
+    text.extend_from_slice(b",\"range\":")?;
+    write_range(&mut text, range)?;
+    text.extend_from_slice(b",\"selectionRange\":")?;
+    write_range(&mut text, selection)?;
+    text.extend_from_slice(b"}")?;
+    text.extend_from_slice(b",")?;
+    Ok(text)
 }
 
-/// A `DocumentSymbol`.
-fn symbol_value(
-    alloc: Global,
-    kind: PartKind,
-    name: &str,
-    range: &Range,
-    selection: &Range,
-    children: Value,
-) -> Result<Value, AllocError>
-    ensures { IfOk result (λ v. view v ≡ symbol_data kind name.now
-        (range_data range.now.start range.now.end) (range_data selection.now.start selection.now.end)
-        (view children)) }
+/// Writes a range.
+fn write_range(text: &mut Vec<u8>, range: &Range) -> Result<(), NoMemory>
+    ensures { OnOk result (text.new.items ≡ text.old.items ++ range_text range.now range.now) }
 {
-    let kind = symbol_kind(kind);
-    let range = range_value(alloc, range)?;
-    let selection = range_value(alloc, selection)?;
-    json!(in alloc; {
-        "children": children,
-        "kind": kind,
-        "name": name,
-        "range": range,
-        "selectionRange": selection
-    })
+    text.extend_from_slice(b"{\"end\":")?;
+    write_position(text, range.end)?;
+    text.extend_from_slice(b",\"start\":")?;
+    write_position(text, range.start)?;
+    text.extend_from_slice(b"}")?;
+    Ok(())
+}
+
+/// Writes a position.
+fn write_position(text: &mut Vec<u8>, position: Position) -> Result<(), NoMemory>
+    ensures { OnOk result (text.new.items ≡ text.old.items ++ position_text position) }
+{
+    text.extend_from_slice(b"{\"character\":")?;
+    write_number(text, position.character)?;
+    text.extend_from_slice(b",\"line\":")?;
+    write_number(text, position.line)?;
+    text.extend_from_slice(b"}")?;
+    Ok(())
 }
 
 /// The `SymbolKind` of LSP.
-fn symbol_kind(kind: PartKind) -> u32
+fn symbol_kind(kind: PartKind) -> usize
     ensures { result ≡ symbol_kind kind }
 {
     match kind {

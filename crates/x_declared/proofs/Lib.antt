@@ -1,2 +1,3 @@
 pub mod DeclaredLemmas
+pub mod ItemWalking
 pub mod ItemsLeft

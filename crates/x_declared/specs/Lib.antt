@@ -1,2 +1,3 @@
 pub mod DeclaredNames
 pub mod Foreign
+pub mod ItemWalks

@@ -1,6 +1,7 @@
 -- On what the documents of an editor are compiled, how many of their faults it is shown, and of what it is
 -- warned.
-use Rattle.std.specs.Prelude.{ℕ, ◌==◌, Bool, true, false, List, [], ◌++◌, bytes_eq, codes, if◌then◌else◌}
+use Rattle.std.specs.Prelude.{ℕ, ◌==◌, ◌&&◌, Bool, true, false, nat_le, if◌then◌else◌}
+use Rattle.std.specs.Prelude.{List, [], ◌++◌, bytes_eq, codes, drop, length, slice_index}
 use Rattle.std.specs.Prelude.{Option, None, Some, option_and_then, unwrap_or}
 use Rattle.std.specs.List.{flat_map}
 use Rattle.serde_json.specs.Data.{Data}
@@ -68,9 +69,19 @@ asked_with on options = record {
 abbrev pub asked_on : Ground → (params : Option Data) → Ground
 asked_on on params = asked_with on (member_of (codes "initializationOptions") params)
 
--- what is compiled of a text that a client has
+-- a byte order mark stands at the front, as UTF-8 has it (RFC 3629, section 6)
+abbrev pub has_mark : List ℕ → Bool
+has_mark text = nat_le 3 (length text)
+    && (slice_index text 0 == 239 && (slice_index text 1 == 187 && slice_index text 2 == 191))
+
+-- a text with spaces in place of such a mark
+abbrev pub unmarked : List ℕ → List ℕ
+unmarked text = if has_mark text then codes "   " ++ drop 3 text else text
+
+-- what is compiled of a text that a client has: without a byte order mark, and without the lines of cpp, where
+-- these are blanked
 abbrev pub compiled_of : (blanks : Bool) → List ℕ → List ℕ
-compiled_of blanks shown = if blanks then blanked shown else shown
+compiled_of blanks shown = if blanks then blanked (unmarked shown) else shown
 
 -- a constant that a directive gives
 abbrev pub constant_text : Spelled → List ℕ
@@ -78,7 +89,7 @@ constant_text c = codes "const " ++ c.name ++ codes " = " ++ c.number ++ codes "
 
 -- the constants that the directives of a text give, where they are blanked
 abbrev pub constants_of : (blanks : Bool) → List ℕ → List ℕ
-constants_of blanks shown = if blanks then flat_map constant_text (defined shown) else []
+constants_of blanks shown = if blanks then flat_map constant_text (defined (unmarked shown)) else []
 
 -- what compiling the text that a client has gives, over what stands before it: known files, the constants of
 -- its directives, and the definitions that it lacks

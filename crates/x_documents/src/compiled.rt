@@ -1,11 +1,15 @@
 //! What is compiled of the text that a client has.
 
 ghost use Rattle.std.specs.Prelude.{◌≡◌, ◌⊎◌, ◌<◌, ◌++◌, false, true, IfErr, IfOk, IsErrOf, OnOk, length};
+ghost use Rattle.std.specs.List.{flat_map};
 ghost use Rattle.x_prelude.specs.Before.{IsBefore, IsCrowded};
 ghost use Rattle.x_text.specs.Limits.{most_text};
 ghost use Rattle.x_prelude.specs.Followed.{IsOver};
 ghost use Rattle.x_documents.specs.Compiled.{IsCompiled};
-ghost use Rattle.x_documents.specs.Grounds.{compiled_of, constants_of, ground_of, ground_with};
+ghost use Rattle.x_directives.specs.Blanked.{blanked};
+ghost use Rattle.x_directives.specs.Constants.{defined};
+ghost use Rattle.x_documents.specs.Grounds.{compiled_of, constant_text, constants_of, ground_of, ground_with};
+ghost use Rattle.x_documents.specs.Grounds.{has_mark, unmarked};
 ghost use Rattle.x_documents.specs.Noting.{IsNotCompiled};
 
 use crate::setting::Setting;
@@ -84,24 +88,54 @@ impl Parts {
             (λ parts. parts.files.items ≡ files.now ++ constants_of blanks shown.now) }
         ensures text { IfOk result (λ parts. parts.text.items ≡ compiled_of blanks shown.now) }
     {
-        let mut before = Vec::from_slice(alloc, files)?;
+        let before = Vec::from_slice(alloc, files)?;
         if !blanks {
             return Ok(Parts {
                 files: before,
                 text: Vec::from_slice(alloc, shown)?,
             });
         }
-        add_constants(alloc, &mut before, shown)?;
+        if has_mark(shown) {
+            return Parts::blanked(alloc, before, &unmarked(alloc, shown)?);
+        }
+        Parts::blanked(alloc, before, shown)
+    }
+
+    /// The parts of a text without a byte order mark, the directives of which are blanked.
+    fn blanked(alloc: Global, before: Vec<u8>, text: &[u8]) -> Result<Parts, NoMemory>
+        ensures files { IfOk result
+            (λ parts. parts.files.items ≡ before.items ++ flat_map constant_text (defined text.now)) }
+        ensures text { IfOk result (λ parts. parts.text.items ≡ blanked text.now) }
+    {
+        let mut files = before;
+        add_constants(alloc, &mut files, text)?;
         Ok(Parts {
-            files: before,
-            text: blanked(alloc, shown)?,
+            files,
+            text: blanked(alloc, text)?,
         })
     }
 }
 
+/// Whether a byte order mark stands at the front (RFC 3629, section 6).
+fn has_mark(text: &[u8]) -> bool
+    ensures { result ≡ has_mark text.now }
+{
+    text.len() >= 3 && text[0] == 0xEF && text[1] == 0xBB && text[2] == 0xBF
+}
+
+/// A text with spaces in place of a byte order mark, so that no place moves.
+fn unmarked(alloc: Global, text: &[u8]) -> Result<Vec<u8>, NoMemory>
+    requires { has_mark text.now ≡ true }
+    ensures { IfOk result (λ bytes. bytes.items ≡ unmarked text.now) }
+{
+    let mut bytes = Vec::from_slice(alloc, b"   ")?;
+    bytes.extend_from_slice(&text[3..])?;
+    Ok(bytes)
+}
+
 /// Adds the constants that the directives of a text give.
 fn add_constants(alloc: Global, text: &mut Vec<u8>, shown: &[u8]) -> Result<(), NoMemory>
-    ensures { OnOk result (text.new.items ≡ text.old.items ++ constants_of true shown.now) }
+    ensures { OnOk result (text.new.items ≡ text.old.items ++ flat_map constant_text (defined shown.now)) }
 {
     for constant in &defined(alloc, shown)? {
         text.extend_from_slice(b"const ")?;

@@ -1,8 +1,9 @@
 -- Messages behind one another.
-use Rattle.std.proofs.Common.{◌≡◌, ℕ, suc, cond, Err, Bool, true, false, get_or, codes, ◌∷◌, ◌+◌, ◌-◌, ◌<◌, ◌≤◌, List, [], ◌++◌, length, take, drop, map, Option, None, Some, arith, ne_eqb, refl, sym, ap, subst, ◌∙◌, append_assoc, append-nil, slice_range}
+use Rattle.std.proofs.Common.{◌≡◌, ℕ, suc, cond, Err, Bool, true, false, get_or, codes, Ok, ◌∷◌, ◌+◌, ◌-◌, ◌<◌, ◌≤◌, List, [], ◌++◌, length, take, drop, map, Option, None, Some, arith, inl, inr, ne_eqb, refl, sym, ap, subst, ◌∙◌, append_assoc, append-nil, slice_range}
 use Rattle.std.specs.Prelude.{IfSome, ◌&&◌, ◌==◌}
 use Rattle.std.specs.Char.{eq_ignore_ascii_case}
 use Rattle.std.specs.Io.KnownBytes.{IsAtEnd}
+use Rattle.std.specs.Io.KnownBytes.{Consumes}
 use Rattle.std.proofs.KnownBytes.{Consumes-nil, Consumes-trans}
 use Rattle.std.proofs.lemmas.List.{take_all, take-append-le, take-append-drop, drop-append-le, length-append, length-take-le, length-drop, drop-drop}
 use Rattle.std.proofs.Math.Seq.{take-append_seam, drop-cons}
@@ -11,10 +12,11 @@ use Rattle.httparse.specs.Spans.{name_and_value, header_bytes, SectionOverflows}
 use Rattle.httparse.specs.declared.spans.HeaderSpan.{HeaderSpan}
 use Rattle.httparse.proofs.GrammarLemmas.{section_unique, ReadsSection-append}
 use Rattle.x_frames.specs.declared.head.Head.{Head}
-use Rattle.x_frames.specs.Framing.{announced, is_named, length_field, most_head, most_body, Finds, FrameReading, IsFramed, IsUnframed, NeverFramed}
+use Rattle.x_frames.specs.Framing.{announced, is_named, length_field, most_head, most_body, BeginsLong, Finds, FrameReading, IsFramed, IsUnframed, NeverFramed}
 use Rattle.x_frames.specs.declared.framing.FrameFault.{FrameFault}
 use Rattle.x_frames.specs.declared.framing.FrameFault.TheVariants.{Read, NoMemory, Bad}
-use Rattle.x_frames.specs.FrameSteps.{FindsBody, FindsHead, FrontIs, HasCome, IsHeadOf}
+use Rattle.x_frames.specs.declared.framing.FrameFound.TheVariants.{Long}
+use Rattle.x_frames.specs.FrameSteps.{FindsBody, FindsHead, FrontIs, HasCome, HasFewer, HasPassed, IsHeadOf, Passes}
 use Rattle.x_frames.proofs.Choices.{on_true, on_false}
 
 -- ---- no message
@@ -55,10 +57,10 @@ same_fields bytes more body rest after fields last reads f =
 
 -- fields that announce no body that a message may have
 pub refused_head : (bytes after : List ℕ) (fields : List Field) (last : LineEnd) → ReadsSection bytes fields last after
-    → ((n : ℕ) → announced (map name_and_value fields) ≡ Some n → n ≤ most_body → length (print_section fields last) ≤ most_head → ⊥) → NeverFramed bytes
+    → ((n : ℕ) → announced (map name_and_value fields) ≡ Some n → length (print_section fields last) ≤ most_head → ⊥) → NeverFramed bytes
 refused_head bytes after fields last reads refuses more body rest f =
     let same = same_fields bytes more body rest after fields last reads f in
-    refuses (length body) (ap (λ fs. announced (map name_and_value fs)) (sym same.0) ∙ f.length_is) f.short_body
+    refuses (length body) (ap (λ fs. announced (map name_and_value fs)) (sym same.0) ∙ f.length_is)
     (subst (λ n. n ≤ most_head) (λ i. length (print_section (same.0 i) (same.1 i))) f.short_head)
 
 -- ---- a message
@@ -68,7 +70,7 @@ behind_fields : (bytes more : List ℕ) (head : Head) → head.length ≤ length
 behind_fields bytes more head within = drop-append-le head.length bytes more within
 
 pub whole_message : (bytes all : List ℕ) (left left' : Option (List ℕ)) (head : Head) → IsHeadOf bytes head → HasCome bytes all left left' → head.length + head.body ≤ length all
-    → IsFramed all (slice_range all head.length (head.length + head.body)) (drop (head.length + head.body) all)
+    → IsFramed all (slice_range all head.length (head.length + head.body)) (drop (head.length + head.body) all) × (length (slice_range all head.length (head.length + head.body)) ≡ head.body)
 whole_message bytes all left left' head h come enough =
     let n = head.length in
     let m = head.body in
@@ -80,7 +82,7 @@ whole_message bytes all left left' head h come enough =
     let within = h.within in
     let parts : take m after ++ drop m after ≡ drop n bytes ++ come.come = take-append-drop m after ∙ ap (drop n) come.new_is ∙ behind_fields bytes come.come head within in
     let body_len : length (slice_range all n (n + m)) ≡ m = ap length body_is ∙ length-take-le m after (omega (arith, len, enough)) in
-    record {
+    (record {
       fields = h.fields;
       last = h.last;
       reads = subst (λ b. ReadsSection b h.fields h.last (slice_range all n (n + m) ++ drop (n + m) all)) (sym come.new_is)
@@ -88,8 +90,89 @@ whole_message bytes all left left' head h come enough =
       length_is = h.body_is ∙ ap Some (sym body_len);
       few = h.few;
       short_head = subst (λ k. k ≤ most_head) h.length_is h.short_head;
-      short_body = subst (λ k. k ≤ most_body) (sym body_len) h.short_body;
-    }
+    }, body_len)
+
+-- ---- a message that is passed over
+
+pub passed_none : (old : List ℕ) (left : Option (List ℕ)) → HasPassed 0 old old left left
+passed_none old left = record { come = []; gone = []; from_tap = Consumes-nil left; all_is = append-nil old; count_is = refl }
+
+-- all that was left is passed over, and more came
+pub passed_all : (n : ℕ) (old mid new : List ℕ) (left left' left'' : Option (List ℕ)) → HasPassed n old mid left left' → HasCome [] new left' left'' → HasPassed (n + length mid) old new left left''
+passed_all n old mid new left left' left'' p c = record {
+  come = p.come ++ c.come;
+  gone = p.gone ++ mid;
+  from_tap = Consumes-trans left left' left'' p.come c.come p.from_tap c.from_tap;
+  all_is = sym (append_assoc old p.come c.come) ∙ ap (λ l. l ++ c.come) p.all_is ∙ (λ i. p.gone ++ mid ++ sym c.new_is i);
+  count_is = length-append p.gone mid ∙ ap (λ k. k + length mid) p.count_is;
+}
+
+-- the front of what was left is passed over
+pub passed_front : (n m : ℕ) (old mid : List ℕ) (left left' : Option (List ℕ)) → HasPassed n old mid left left' → m ≤ length mid → HasPassed (n + m) old (drop m mid) left left'
+passed_front n m old mid left left' p within = record {
+  come = p.come;
+  gone = p.gone ++ take m mid;
+  from_tap = p.from_tap;
+  all_is = p.all_is ∙ ap (λ l. p.gone ++ l) (sym (take-append-drop m mid)) ∙ sym (append_assoc p.gone (take m mid) (drop m mid));
+  count_is = length-append p.gone (take m mid) ∙ (λ i. p.count_is i + length-take-le m mid within i);
+}
+
+-- fewer have come than are to be passed over
+pub passed_fewer : (n count : ℕ) (old mid : List ℕ) (left left' : Option (List ℕ)) → HasPassed n old mid left left' → n + length mid < count → HasFewer count old left left'
+passed_fewer n count old mid left left' p few =
+    let len = ap length p.all_is ∙ length-append p.gone mid in
+    let gone = p.count_is in
+    record { come = p.come; from_tap = p.from_tap; fewer = omega (arith, len, gone, few) }
+
+-- so it is where nothing more comes
+pub fewer_so : (fault : FrameFault) (n count : ℕ) (old mid new : List ℕ) (left left' left'' : Option (List ℕ)) → (fault ≡ Bad → ⊥) → HasPassed n old mid left left' → HasCome [] new left' left'' → new ≡ [] → n + length mid < count
+    → Passes (Err fault) count old new left left''
+fewer_so fault n count old mid new left left' left'' other p c none few =
+    let q = passed_all n old mid new left left' left'' p c in
+    let len = ap length none in
+    by fault other (passed_fewer (n + length mid) count old new left left'' q (omega (arith, len, few)))
+  where
+    by : (fault : FrameFault) → (fault ≡ Bad → ⊥) → HasFewer count old left left'' → Passes (Err fault) count old new left left''
+    by Bad other f = absurd (other refl)
+    by Read other f = f
+    by NoMemory other f = (f.come, f.from_tap)
+
+-- header fields of a long message
+begins_long : (bytes more : List ℕ) (head : Head) → IsHeadOf bytes head → most_body < head.body → BeginsLong (bytes ++ more)
+begins_long bytes more head h long = record {
+  fields = h.fields;
+  last = h.last;
+  after = drop head.length bytes ++ more;
+  reads = ReadsSection-append bytes h.fields h.last (drop head.length bytes) more h.reads;
+  length = head.body;
+  length_is = h.body_is;
+  is_long = long;
+}
+
+pub long_message : (bytes new : List ℕ) (left left' : Option (List ℕ)) (head : Head) → IsHeadOf bytes head → (p : HasPassed head.body (drop head.length bytes) new left left') → most_body < head.body
+    → (body : List ℕ) × IsFramed (bytes ++ p.come) body new × (most_body < length body)
+long_message bytes new left left' head h p long = (
+  p.gone,
+  record {
+    fields = h.fields;
+    last = h.last;
+    reads = subst (ReadsSection (bytes ++ p.come) h.fields h.last) p.all_is (ReadsSection-append bytes h.fields h.last (drop head.length bytes) p.come h.reads);
+    length_is = h.body_is ∙ ap Some (sym p.count_is);
+    few = h.few;
+    short_head = subst (λ k. k ≤ most_head) h.length_is h.short_head;
+  },
+  subst (λ k. most_body < k) (sym p.count_is) long,
+)
+
+pub long_found : (unread mid new : List ℕ) (reading : FrameReading) (left left' left'' : Option (List ℕ)) (head : Head) → IsHeadOf mid head → most_body < head.body → HasCome unread mid left left'
+    → HasPassed head.body (drop head.length mid) new left' left'' → reading.unread ≡ new → (come : List ℕ) × Consumes left left'' come × Finds (Ok Long) (unread ++ come) reading left''
+long_found unread mid new reading left left' left'' head h long first p is =
+    let found = long_message mid new left' left'' head h p long in
+    let all : mid ++ p.come ≡ unread ++ (first.come ++ p.come) = ap (λ l. l ++ p.come) first.new_is ∙ append_assoc unread first.come p.come in (
+      first.come ++ p.come,
+      Consumes-trans left left' left'' first.come p.come first.from_tap p.from_tap,
+      (found.0, subst (λ b. IsFramed b found.0 reading.unread) all (subst (λ r. IsFramed (mid ++ p.come) found.0 r) (sym is) found.1), found.2),
+    )
 
 -- a body that is cut off
 cut_short : (bytes all : List ℕ) (left left' : Option (List ℕ)) (head : Head) → IsHeadOf bytes head → HasCome bytes all left left' → length all < head.length + head.body → IsUnframed all
@@ -199,8 +282,8 @@ grown_front old new rest n more ok n_is ok_is new_is =
 pub head_fault : (fault : FrameFault) (unread all : List ℕ) (new : FrameReading) (left left' : Option (List ℕ)) → (come : HasCome unread all left left') → new.unread ≡ all
     → FindsHead (Err fault) all left' → Finds (Err fault) (unread ++ come.come) new left'
 head_fault Bad unread all new left left' come new_is found = subst (λ b. IfSome left' (λ later. IsUnframed (b ++ later))) come.new_is found
-head_fault Read unread all new left left' come new_is found = (new_is ∙ come.new_is, subst IsUnframed come.new_is found)
-head_fault NoMemory unread all new left left' come new_is found = new_is ∙ come.new_is
+head_fault Read unread all new left left' come new_is found = (inl (new_is ∙ come.new_is), subst IsUnframed come.new_is found)
+head_fault NoMemory unread all new left left' come new_is found = inl (new_is ∙ come.new_is)
 
 -- a fault while the body is read
 pub body_fault : (fault : FrameFault) (unread mid all : List ℕ) (new : FrameReading) (left left' left'' : Option (List ℕ)) (head : Head) → IsHeadOf mid head
@@ -208,5 +291,44 @@ pub body_fault : (fault : FrameFault) (unread mid all : List ℕ) (new : FrameRe
 body_fault Bad unread mid all new left left' left'' head h come second new_is found =
     subst (λ b. IfSome left'' (λ later. IsUnframed (b ++ later))) come.new_is (cut_message mid all left' left'' head h second found.0 found.1)
 body_fault Read unread mid all new left left' left'' head h come second new_is found =
-    (new_is ∙ come.new_is, subst IsUnframed come.new_is (cut_short mid all left' left'' head h second found))
-body_fault NoMemory unread mid all new left left' left'' head h come second new_is found = new_is ∙ come.new_is
+    (inl (new_is ∙ come.new_is), subst IsUnframed come.new_is (cut_short mid all left' left'' head h second found))
+body_fault NoMemory unread mid all new left left' left'' head h come second new_is found = inl (new_is ∙ come.new_is)
+
+-- a fault while a body is passed over
+pub pass_fault : (fault : FrameFault) (unread mid after : List ℕ) (new : FrameReading) (left left' left'' : Option (List ℕ)) (head : Head) → IsHeadOf mid head → most_body < head.body
+    → HasCome unread mid left left' → Passes (Err fault) head.body (drop head.length mid) after left' left'' → (come : List ℕ) × Consumes left left'' come × Finds (Err fault) (unread ++ come) new left''
+pass_fault fault unread mid after new left left' left'' head h long first passes = by fault passes
+  where
+    -- more came
+    further : (come : List ℕ) → Consumes left' left'' come → HasCome unread (mid ++ come) left left''
+    further come from = come_more unread mid (mid ++ come) left left' left'' first (record { come = come; from_tap = from; new_is = refl })
+
+    goes_on : (come : List ℕ) → (from : Consumes left' left'' come) → BeginsLong (unread ++ (further come from).come)
+    goes_on come from = subst BeginsLong (further come from).new_is (begins_long mid come head h long)
+
+    short : (few : HasFewer head.body (drop head.length mid) left' left'') → length (mid ++ few.come) < head.length + head.body
+    short few =
+        let one = length-append (drop head.length mid) few.come in
+        let two = length-drop head.length mid in
+        let three = length-append mid few.come in
+        let within = h.within in
+        let fewer = few.fewer in
+        omega (arith, one, two, three, within, fewer)
+
+    second : (few : HasFewer head.body (drop head.length mid) left' left'') → HasCome mid (mid ++ few.come) left' left''
+    second few = record { come = few.come; from_tap = few.from_tap; new_is = refl }
+
+    by : (fault : FrameFault) → Passes (Err fault) head.body (drop head.length mid) after left' left'' → (come : List ℕ) × Consumes left left'' come × Finds (Err fault) (unread ++ come) new left''
+    by Bad p =
+        let come = further p.0.come p.0.from_tap in (
+          come.come,
+          come.from_tap,
+          subst (λ b. IfSome left'' (λ later. IsUnframed (b ++ later))) come.new_is (cut_message mid (mid ++ p.0.come) left' left'' head h (second p.0) (short p.0) p.1),
+        )
+    by Read p =
+        let come = further p.come p.from_tap in (
+          come.come,
+          come.from_tap,
+          (inr (goes_on p.come p.from_tap), subst IsUnframed come.new_is (cut_short mid (mid ++ p.come) left' left'' head h (second p) (short p))),
+        )
+    by NoMemory p = ((further p.0 p.1).come, (further p.0 p.1).from_tap, inr (goes_on p.0 p.1))

@@ -1,3 +1,4 @@
 mod Choices
 mod FrameLemmas
 pub mod JsonLemmas
+pub mod TextLemmas

@@ -10,7 +10,7 @@ use Rattle.x_frames.specs.declared.answers.ErrorCode.{ErrorCode}
 use Rattle.x_frames.specs.declared.answers.ErrorCode.TheVariants.{ParseError, InvalidRequest, MethodNotFound}
 use Rattle.x_frames.specs.declared.answers.ErrorCode.TheVariants.{InvalidParams, InternalError, RequestFailed}
 use Rattle.x_frames.specs.declared.answers.ErrorCode.TheVariants.{NotInitialized, ContentModified}
-use Rattle.x_frames.specs.declared.answers.ErrorCode.TheVariants.{NameUnparsed, NameLifted}
+use Rattle.x_frames.specs.declared.answers.ErrorCode.TheVariants.{NameUnparsed, NameLifted, TooLong}
 use Rattle.x_frames.specs.declared.life.Life.{Life}
 use Rattle.x_frames.specs.declared.method.Method.{Method}
 use Rattle.x_frames.specs.Lives.{admitted, is_of_request, life_behind, life_noted, method_named}
@@ -20,6 +20,7 @@ use Rattle.x_frames.specs.Messages.{Asked, asked_by, request, notification, resp
 abbrev pub error_number : ErrorCode → ℤ
 error_number ParseError = negsuc 32699
 error_number InvalidRequest = negsuc 32599
+error_number TooLong = negsuc 32599
 error_number MethodNotFound = negsuc 32600
 error_number InvalidParams = negsuc 32601
 error_number InternalError = negsuc 32602
@@ -33,6 +34,7 @@ error_number NotInitialized = negsuc 32001
 abbrev pub error_name : ErrorCode → List ℕ
 error_name ParseError = codes "the message is no JSON"
 error_name InvalidRequest = codes "the message is no request"
+error_name TooLong = codes "the message has over 64 MiB"
 error_name MethodNotFound = codes "the method is not known"
 error_name InvalidParams = codes "the parameters are wrong"
 error_name InternalError = codes "out of memory"
@@ -54,6 +56,15 @@ version_member more = member (codes "jsonrpc") (string (codes "2.0")) more
 abbrev pub answer_data : Data → Data → Data
 answer_data id result =
     object (member (codes "id") id (version_member (member (codes "result") result no_members)))
+
+-- the text of that answer, by the texts of the id and of the result
+abbrev pub answer_text : (id result : List ℕ) → List ℕ
+answer_text id result =
+    codes "{\"id\":" ++ id ++ codes ",\"jsonrpc\":\"2.0\",\"result\":" ++ result ++ codes "}"
+
+-- it is the text of a value
+abbrev pub IsText : List ℕ → Type 0
+IsText text = (d : Data) × (text ≡ compact_text d)
 
 -- the answer that refuses a request
 abbrev pub refusal_data : Data → ErrorCode → Data

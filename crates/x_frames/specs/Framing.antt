@@ -1,6 +1,6 @@
 -- Messages behind one another (LSP 3.17, "Base Protocol"): each has header fields, an empty line and a body,
 -- as many bytes as its field Content-Length says.
-use Rattle.std.specs.Prelude.{◌≡◌, ℕ, ◌≤◌, ◌&&◌, Bool, true, false, List, [], ◌∷◌, ◌++◌, length, map, codes}
+use Rattle.std.specs.Prelude.{◌≡◌, ◌⊎◌, ℕ, ◌<◌, ◌≤◌, ◌&&◌, Bool, true, false, List, [], ◌∷◌, ◌++◌, length, map, codes}
 use Rattle.std.specs.Prelude.{Option, None, Some, option_and_then, Result, Ok, Err, if◌then◌else◌, IfSome}
 use Rattle.std.specs.Char.{eq_ignore_ascii_case}
 use Rattle.std.specs.Str.Parse.{digits_value}
@@ -11,10 +11,10 @@ use Rattle.x_lines.specs.Numbers.{is_number}
 use Rattle.x_frames.specs.declared.framing.FrameFault.{FrameFault}
 use Rattle.x_frames.specs.declared.framing.FrameFault.TheVariants.{Read, Bad, NoMemory}
 use Rattle.x_frames.specs.declared.framing.FrameFound.{FrameFound}
-use Rattle.x_frames.specs.declared.framing.FrameFound.TheVariants.{Message, End}
+use Rattle.x_frames.specs.declared.framing.FrameFound.TheVariants.{Message, Long, End}
 
--- the most bytes of a body, and of the header fields before it with the empty line, and the most fields (this
--- project)
+-- the most bytes of a body that is read, and of the header fields before it with the empty line, and the most
+-- fields (this project)
 abbrev pub most_body : ℕ
 most_body = 67108864
 
@@ -52,7 +52,16 @@ pub record IsFramed (bytes body rest : List ℕ) : Type 0 where
   pub length_is : announced (map name_and_value fields) ≡ Some (length body)
   pub few : length fields ≤ most_fields
   pub short_head : length (print_section fields last) ≤ most_head
-  pub short_body : length body ≤ most_body
+
+-- the bytes begin with the header fields of a message whose body is too long to be read
+pub record BeginsLong (bytes : List ℕ) : Type 0 where
+  pub fields : List Field
+  pub last : LineEnd
+  pub after : List ℕ
+  pub reads : ReadsSection bytes fields last after
+  pub length : ℕ
+  pub length_is : announced (map name_and_value fields) ≡ Some length
+  pub is_long : most_body < length
 
 -- no bytes that follow make the bytes begin with a message
 abbrev pub NeverFramed : List ℕ → Type 0
@@ -67,15 +76,20 @@ pub record FrameReading : Type 0 where
   pub body : List ℕ
   pub unread : List ℕ
 
+-- bytes stay unread, unless they are of a body that is too long
+abbrev pub StayUnread : List ℕ → FrameReading → Type 0
+StayUnread bytes new = (new.unread ≡ bytes) ⊎ BeginsLong bytes
+
 -- What a reader finds in the bytes that are unread, over a tap that has `left`: the message that they begin
--- with, or the end, where there are none. It fails where they can be no message, or are none at the end; and
--- where the tap fails, before they are one.
+-- with, whose body it passes over where that is too long; or the end, where there are none. It fails where
+-- they can be no message, or are none at the end; and where the tap fails, before they are one.
 abbrev pub Finds : Result FrameFound FrameFault → List ℕ → FrameReading → Option (List ℕ) → Type 0
-Finds (Ok Message) bytes new left = IsFramed bytes new.body new.unread
+Finds (Ok Message) bytes new left = IsFramed bytes new.body new.unread × (length new.body ≤ most_body)
+Finds (Ok Long) bytes new left = (body : List ℕ) × IsFramed bytes body new.unread × (most_body < length body)
 Finds (Ok End) bytes new left = (bytes ≡ []) × (new.unread ≡ []) × IsAtEnd left
 Finds (Err Bad) bytes new left = IfSome left (λ later. IsUnframed (bytes ++ later))
-Finds (Err Read) bytes new left = (new.unread ≡ bytes) × IsUnframed bytes
-Finds (Err NoMemory) bytes new left = new.unread ≡ bytes
+Finds (Err Read) bytes new left = StayUnread bytes new × IsUnframed bytes
+Finds (Err NoMemory) bytes new left = StayUnread bytes new
 
 -- a call read on from the tap, and this is what it found
 pub record ReadsFrame (old new : FrameReading) (left left' : Option (List ℕ))

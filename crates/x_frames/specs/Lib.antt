@@ -2,6 +2,7 @@ pub mod Answers
 pub mod FrameSteps
 pub mod Framing
 pub mod KeptSaid
+pub mod ListTexts
 pub mod Lives
 pub mod Messages
 pub mod Notes

@@ -2,7 +2,7 @@
 use Rattle.std.specs.Prelude.{ℕ, List, Bool, true, false, bytes_eq, codes, if◌then◌else◌}
 use Rattle.std.specs.Prelude.{Option, Some, None, Result, Ok, Err, option_map}
 use Rattle.x_frames.specs.declared.answers.ErrorCode.{ErrorCode}
-use Rattle.x_frames.specs.declared.answers.ErrorCode.TheVariants.{InvalidRequest, MethodNotFound}
+use Rattle.x_frames.specs.declared.answers.ErrorCode.TheVariants.{InvalidRequest, TooLong, MethodNotFound}
 use Rattle.x_frames.specs.declared.answers.ErrorCode.TheVariants.{InvalidParams, InternalError, ParseError}
 use Rattle.x_frames.specs.declared.answers.ErrorCode.TheVariants.{NotInitialized, RequestFailed}
 use Rattle.x_frames.specs.declared.answers.ErrorCode.TheVariants.{ContentModified, NameUnparsed, NameLifted}
@@ -97,6 +97,7 @@ life_noted life method = if bytes_eq method (codes "exit") then Ended (is_shut_d
 abbrev pub is_of_request : ErrorCode → Bool
 is_of_request ParseError = false
 is_of_request InvalidRequest = false
+is_of_request TooLong = false
 is_of_request MethodNotFound = false
 is_of_request InvalidParams = true
 is_of_request InternalError = true

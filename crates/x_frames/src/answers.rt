@@ -1,10 +1,11 @@
 //! What a server says.
 
-ghost use Rattle.std.specs.Prelude.{◌≡◌, false, IfOk, string_bytes};
+ghost use Rattle.std.specs.Prelude.{◌≡◌, false, true, IfErr, IfOk, string_bytes};
 ghost use Rattle.serde_json.specs.View.{view};
 ghost use Rattle.serde_json.specs.Written.{compact_text, has_float};
-ghost use Rattle.x_frames.specs.Answers.{answer_data, error_name, error_number, error_text, note_data};
-ghost use Rattle.x_frames.specs.Answers.{refusal_data, shown_data};
+ghost use Rattle.x_frames.specs.Answers.{answer_text, error_name, error_number, error_text, note_data};
+ghost use Rattle.x_frames.specs.Answers.{IsText, refusal_data, shown_data};
+ghost use Rattle.x_frames.specs.Lives.{is_of_question};
 
 use serde_json::{Value, json};
 use std::alloc::{AllocError, Global};
@@ -17,6 +18,8 @@ pub enum ErrorCode {
     ParseError,
     /// The message is no request.
     InvalidRequest,
+    /// The message has more bytes than are read.
+    TooLong,
     /// The method is not known.
     MethodNotFound,
     /// The parameters are wrong.
@@ -54,6 +57,7 @@ impl ErrorCode {
         match self {
             ErrorCode::ParseError => -32700,
             ErrorCode::InvalidRequest => -32600,
+            ErrorCode::TooLong => -32600,
             ErrorCode::MethodNotFound => -32601,
             ErrorCode::InvalidParams => -32602,
             ErrorCode::InternalError => -32603,
@@ -71,6 +75,7 @@ impl ErrorCode {
         match self {
             ErrorCode::ParseError => "the message is no JSON",
             ErrorCode::InvalidRequest => "the message is no request",
+            ErrorCode::TooLong => "the message has over 64 MiB",
             ErrorCode::MethodNotFound => "the method is not known",
             ErrorCode::InvalidParams => "the parameters are wrong",
             ErrorCode::InternalError => "out of memory",
@@ -94,19 +99,36 @@ impl ErrorCode {
     }
 }
 
-/// The answer to the request with this id.
-pub fn answer(alloc: Global, id: &Value, found: Value) -> Result<Vec<u8>, AllocError>
-    requires id { has_float (view id.now) ≡ false }
-    requires found { has_float (view found) ≡ false }
-    ensures { IfOk result (λ text. text.items ≡ compact_text (answer_data (view id.now) (view found))) }
+/// The text of a result.
+///
+/// # Errors
+///
+/// [`ErrorCode::InternalError`] where the text could not grow.
+pub fn result_text(alloc: Global, found: &Value) -> Result<Vec<u8>, ErrorCode>
+    requires { has_float (view found.now) ≡ false }
+    ensures text { IfOk result (λ text. IsText text.items) }
+    ensures same { IfOk result (λ text. text.items ≡ compact_text (view found.now)) }
+    ensures code { IfErr result (λ code. is_of_question code ≡ true) }
 {
-    answer_value(alloc, id, found)?.to_vec(alloc)
+    match found.to_vec(alloc) {
+        Ok(text) => Ok(text),
+        Err(_) => Err(ErrorCode::InternalError),
+    }
 }
 
-fn answer_value(alloc: Global, id: &Value, found: Value) -> Result<Value, AllocError>
-    ensures { IfOk result (λ v. view v ≡ answer_data (view id.now) (view found)) }
+/// The answer to the request with this id, whose result has this text.
+pub fn answer(alloc: Global, id: &Value, found: &[u8]) -> Result<Vec<u8>, AllocError>
+    requires { has_float (view id.now) ≡ false }
+    ensures { IfOk result (λ text. text.items ≡ answer_text (compact_text (view id.now)) found.now) }
 {
-    json!(in alloc; {"jsonrpc": "2.0", "id": id, "result": found})
+    let id = id.to_vec(alloc)?;
+    let mut text = Vec::new(alloc);
+    text.extend_from_slice(b"{\"id\":")?;
+    text.extend_from_slice(&id)?;
+    text.extend_from_slice(b",\"jsonrpc\":\"2.0\",\"result\":")?;
+    text.extend_from_slice(found)?;
+    text.push(b'}')?;
+    Ok(text)
 }
 
 /// The answer that refuses the request with this id.

@@ -3,7 +3,7 @@
 ghost use Rattle.std.specs.Prelude.{◌≡◌, ◌≤◌, [], drop, Ok, OnErr, vec_len};
 ghost use Rattle.std.specs.Io.KnownBytes.{IsAtEnd};
 ghost use Rattle.x_frames.specs.Framing.{FailsReading, ReadsFrame};
-ghost use Rattle.x_frames.specs.FrameSteps.{FindsBody, FindsHead, HasCome, IsHeadOf};
+ghost use Rattle.x_frames.specs.FrameSteps.{FindsBody, FindsHead, HasCome, IsHeadOf, Passes};
 
 use crate::head::{Head, find_head};
 use std::alloc::Global;
@@ -11,7 +11,7 @@ use std::marker::Model;
 use thiserror::Error;
 use x_text::Tap;
 
-/// The most bytes of a message's body.
+/// The most bytes of a message's body that is read.
 pub const MOST_BODY: usize = 67_108_864;
 
 /// The most bytes of a message's header fields, with the empty line behind them.
@@ -39,6 +39,8 @@ pub enum FrameFault {
 pub enum FrameFound {
     /// A message, whose body [`MessageReader::body`] gives.
     Message,
+    /// A message whose body has more than [`MOST_BODY`] bytes. They are passed over.
+    Long,
     /// The end: there are no more messages.
     End,
 }
@@ -87,7 +89,7 @@ impl MessageReader {
         &self.buffer[self.start..self.end]
     }
 
-    /// Finds the next message.
+    /// Finds the next message. It takes no memory for a body that is too long.
     ///
     /// # Errors
     /// The tap failed, memory ran out, or there is no message.
@@ -101,6 +103,11 @@ impl MessageReader {
         let Some(head) = read_head(&mut self.buffer, tap)? else {
             return Ok(FrameFound::End);
         };
+        if head.body > MOST_BODY {
+            drop_front(&mut self.buffer, head.length);
+            pass(&mut self.buffer, head.body, tap)?;
+            return Ok(FrameFound::Long);
+        }
         read_body(&mut self.buffer, &head, tap)?;
         self.start = head.length;
         self.end = head.length + head.body;
@@ -157,6 +164,40 @@ fn read_body<R: Tap>(buffer: &mut Vec<u8>, head: &Head, tap: &mut R) -> Result<(
     }
     // No tap comes to so many pieces.
     Err(FrameFault::NoMemory)
+}
+
+/// Passes over so many bytes, and reads on where they have not come.
+fn pass<R: Tap>(buffer: &mut Vec<u8>, count: usize, tap: &mut R) -> Result<(), FrameFault>
+    ensures passes { Passes result count buffer.old.items buffer.new.items (R.state tap.old).bytes
+        (R.state tap.new).bytes }
+    ensures failed { FailsReading result (R.state tap.old).failed (R.state tap.new).failed }
+{
+    let mut left = count;
+    'pieces: for _ in 0..u64::MAX {
+        let here = buffer.len();
+        if left <= here {
+            drop_front(buffer, left);
+            return Ok(());
+        }
+        left -= here;
+        if next_piece(buffer, tap)? == 0 {
+            return Err(FrameFault::Bad);
+        }
+    }
+    // No tap comes to so many pieces.
+    Err(FrameFault::NoMemory)
+}
+
+/// Reads a piece in place of the others, and answers how many bytes came: none only at the tap's end.
+fn next_piece<R: Tap>(buffer: &mut Vec<u8>, tap: &mut R) -> Result<usize, FrameFault>
+    ensures come { HasCome [] buffer.new.items (R.state tap.old).bytes (R.state tap.new).bytes }
+    ensures end { result ≡ Ok 0 → IsAtEnd (R.state tap.new).bytes × (buffer.new.items ≡ []) }
+    ensures other { result ≡ Err FrameFault.Bad → ⊥ }
+    ensures same { OnErr result (buffer.new.items ≡ []) }
+    ensures failed { FailsReading result (R.state tap.old).failed (R.state tap.new).failed }
+{
+    buffer.clear();
+    read_piece(buffer, tap)
 }
 
 /// Reads a piece behind the others, and answers how many bytes came: none only at the tap's end.

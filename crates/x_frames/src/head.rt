@@ -9,7 +9,7 @@ ghost use Rattle.x_frames.specs.Framing.{announced, is_named, length_field};
 ghost use Rattle.x_frames.specs.FrameSteps.{FrontIs};
 ghost use Rattle.x_lines.specs.Numbers.{is_number};
 
-use crate::framing::{FrameFault, MOST_BODY, MOST_HEAD};
+use crate::framing::{FrameFault, MOST_HEAD};
 use httparse::Status;
 use httparse::spans::{EMPTY_HEADER_SPAN, HeaderSpan, parse_headers};
 
@@ -62,9 +62,6 @@ fn head_of(
     let Some(body) = announced(bytes, &spans[..count]) else {
         return Err(FrameFault::Bad);
     };
-    if body > MOST_BODY {
-        return Err(FrameFault::Bad);
-    }
     Ok(Some(Head { length: end, body }))
 }
 

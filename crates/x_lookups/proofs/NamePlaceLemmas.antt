@@ -4,22 +4,19 @@ use Rattle.std.specs.Prelude.{slice_get}
 use Rattle.std.specs.List.{flat_map}
 use Rattle.std.proofs.lemmas.List.{append-nil, map-append}
 use Rattle.std.proofs.lemmas.List.Elements.{filter-append}
-use Rattle.x_lex.specs.declared.kind.Kind.{Kind}
 use Rattle.x_lex.specs.declared.tokens.token.Token.{Token}
 use Rattle.x_lex.specs.Places.{Lexeme, lexeme}
-use Rattle.x_cutting.specs.Items.{AreItems, IsNext}
 use Rattle.x_trees.specs.Tree.{Definition}
 use Rattle.x_trees.specs.Names.{Declared, declared}
 use Rattle.x_trees.specs.Mentions.{Mention, mentioned}
 use Rattle.x_trees.specs.Words.{is_significant}
-use Rattle.x_item.specs.Parse.{Parse, IsParse}
-use Rattle.x_compile.specs.Compile.{Item, IsCompilation, definition_at, parsed_definition, tokens_of}
-use Rattle.x_compile.proofs.Compiled.{one_compilation}
+use Rattle.x_compile.specs.Compile.{Item, parsed_definition}
 use Rattle.x_compile.specs.Known.{KnownText}
 use Rattle.x_session.specs.Session.{Compiles}
 use Rattle.x_lookups.specs.declared.name_places.Standing.{Standing}
 use Rattle.x_declared.specs.DeclaredNames.{words_in}
-use Rattle.x_declared.proofs.ItemsLeft.{AreLeft, all_left, item_at, next_item_is, none_left}
+use Rattle.x_declared.specs.ItemWalks.{over_items}
+use Rattle.x_declared.proofs.ItemWalking.{HasWalked, walked_all}
 use Rattle.x_lookups.specs.NamePlaces.{NamePlace, declared_on, mentioned_on, name_on, names_by, names_of, tokens_where}
 
 -- ---- lists of names
@@ -39,61 +36,24 @@ where_over test names x all rest is = ap (λ l. tokens_where test (flat_map name
 
 -- ---- the items of a text
 
--- in the items before one what is sought is found, and the tokens of the others are left
-pub record HasFound (known : KnownText) (text : List ℕ) (test : NamePlace → Bool) (n : ℕ) (walk found : List Lexeme) : Type 0 where
-  pub tokens : List (Kind × ℕ)
-  pub items : List Item
-  pub compiles : IsCompilation known text tokens items
-  pub left : AreLeft walk (map (λ i. i.tokens) (drop n items))
-  pub found_is : found ++ tokens_where test (names_of (drop n items)) ≡ tokens_where test (names_of items)
+-- what is sought in an item is found behind what was found before
+abbrev pub found_by : (test : NamePlace → Bool) → (found tokens : List Lexeme) → Option Definition → List Lexeme
+found_by test found tokens o = found ++ tokens_where test (names_by tokens o)
 
-pub found_none : {known : KnownText} (text : List ℕ) (test : NamePlace → Bool) (walk : List Lexeme) → Compiles known text (λ items. walk ≡ tokens_of items) → HasFound known text test 0 walk []
-found_none text test walk c = record {
-  tokens = c.0;
-  items = c.1;
-  compiles = c.2;
-  left = all_left (tokens_of c.1) walk (map (λ i. i.tokens) c.1) (subst (λ l. AreItems l (map (λ i. i.tokens) c.1)) (sym c.2.are_items.all) c.2.are_items) c.3;
-  found_is = refl;
-}
-
--- one item more
-pub found_item : {known : KnownText} (text : List ℕ) (test : NamePlace → Bool) (n m count : ℕ) (whole : Bool) (walk walk' part found found' : List Lexeme) (o : Option Definition) → m ≡ n + 1 → n < count → Compiles known text (λ items. count ≡ length items)
-    → Compiles known text (λ items. o ≡ definition_at items n) → HasFound known text test n walk found → IsNext whole walk part walk'
-    → ((p : Parse) → IsParse part p → o ≡ parsed_definition p → found' ≡ found ++ tokens_where test (names_by part o)) → HasFound known text test m walk' found'
-found_item {known} text test n m count whole walk walk' part found found' o step lt many has had next names =
-    let same : had.items ≡ many.1 = (one_compilation known text had.tokens many.0 had.items many.1 had.compiles many.2).1 in
-    let same' : has.1 ≡ had.items = (one_compilation known text has.0 had.tokens has.1 had.items has.2 had.compiles).1 in
-    let count_is : count ≡ length had.items = many.3 ∙ ap length (sym same) in
-    let at = item_at had.items n (omega (arith, lt, count_is)) had.compiles.are_parses in
-    let rest = drop (suc n) had.items in
-    let here : map (λ i. i.tokens) (drop n had.items) ≡ at.item.tokens ∷ map (λ i. i.tokens) rest = ap (map (λ i. i.tokens)) at.here in
-    let left = next_item_is whole walk part walk' at.item.tokens (map (λ i. i.tokens) rest) (subst (AreLeft walk) here had.left) next in
-    let o_is : o ≡ parsed_definition at.item.parse = has.3 ∙ ap (λ is. definition_at is n) same' ∙ at.definition in
-    let these = tokens_where test (names_by at.item.tokens (parsed_definition at.item.parse)) in
-    let more : found' ≡ found ++ these =
-    names at.item.parse (subst (λ ts. IsParse ts at.item.parse) (sym left.0) at.parsed) o_is ∙ (λ k. found ++ tokens_where test (names_by (left.0 k) (o_is k))) in
-    let suc_is : suc n ≡ m = omega (arith, step) in
-    subst (λ k. HasFound known text test k walk' found') suc_is record {
-      tokens = had.tokens;
-      items = had.items;
-      compiles = had.compiles;
-      left = left.1;
-      found_is = found_more found found' these (tokens_where test (names_of rest)) (tokens_where test (names_of (drop n had.items))) (tokens_where test (names_of had.items)) more
-          (where_over test (λ i. names_by i.tokens (parsed_definition i.parse)) at.item (drop n had.items) rest at.here) had.found_is;
-    }
+found_over : (test : NamePlace → Bool) (found : List Lexeme) (items : List Item) → over_items (found_by test) found items ≡ found ++ tokens_where test (names_of items)
+found_over test found [] = sym (append-nil found)
+found_over test found (i ∷ is) =
+    let names = names_by i.tokens (parsed_definition i.parse) in
+    found_over test (found ++ tokens_where test names) is
+    ∙ append_assoc found (tokens_where test names) (tokens_where test (names_of is))
+    ∙ ap (λ l. found ++ l) (sym (where_append test names (names_of is)))
 
 -- all is found
-pub found_all : {known : KnownText} (text : List ℕ) (test : NamePlace → Bool) (n count : ℕ) (walk found : List Lexeme) → count ≤ n → Compiles known text (λ items. count ≡ length items) → HasFound known text test n walk found
+pub found_all : {known : KnownText} (text : List ℕ) (test : NamePlace → Bool) (n count : ℕ) (walk found : List Lexeme) → count ≤ n → Compiles known text (λ items. count ≡ length items) → HasWalked known text (found_by test) [] n walk found
     → Compiles known text (λ items. found ≡ tokens_where test (names_of items))
-found_all {known} text test n count walk found le many had =
-    let same : had.items ≡ many.1 = (one_compilation known text had.tokens many.0 had.items many.1 had.compiles many.2).1 in
-    let count_is : count ≡ length had.items = many.3 ∙ ap length (sym same) in
-    let none = none_left had.items n (omega (arith, le, count_is)) in (
-      had.tokens,
-      had.items,
-      had.compiles,
-      sym (append-nil found) ∙ ap (λ is. found ++ tokens_where test (names_of is)) (sym none) ∙ had.found_is,
-    )
+found_all text test n count walk found le many had =
+    let all = walked_all text (found_by test) [] n count walk found le many had in
+    (all.0, all.1, all.2, all.3 ∙ found_over test [] all.1)
 
 -- ---- the names in an item
 

@@ -2,28 +2,32 @@
 use Rattle.std.proofs.Common.{◌≡◌, ◌++◌, ℕ, Bool, List, Option, None, Some, Result, Ok, Err, true, ap, inl, inr, refl, subst, sym}
 use Rattle.std.proofs.Math.Logic.{∥∥₁_map}
 use Rattle.std.specs.Prelude.{IfErr, IfOk, IfSome, if◌then◌else◌, string_bytes}
+use Rattle.std.specs.Global.{Global}
 use Rattle.std.specs.Str.Lossy.{utf8_lossy}
+use Rattle.std.specs.declared.vec.Vec.{Vec}
 use Rattle.serde_json.specs.Data.{Data, array, string}
-use Rattle.serde_json.specs.View.{items_of, view}
+use Rattle.serde_json.specs.View.{items_of}
 use Rattle.serde_json.specs.Written.{compact_text}
-use Rattle.serde_json.specs.declared.value.Value.{Value}
 use Rattle.x_session.specs.Session.{Compiles}
 use Rattle.x_positions.specs.declared.encoding.Encoding.{Encoding}
 use Rattle.x_args.specs.BaseNames.{base_of}
 use Rattle.x_prelude.specs.Before.{IsBefore}
 use Rattle.x_prelude.specs.declared.followed.FollowedText.{FollowedText}
-use Rattle.x_frames.specs.Answers.{IsRefused, answer_data}
+use Rattle.x_frames.specs.Answers.{IsRefused, IsText, answer_data, answer_text}
 use Rattle.x_frames.specs.Lives.{is_of_question, is_of_request}
 use Rattle.x_frames.specs.declared.answers.ErrorCode.{ErrorCode}
 use Rattle.x_frames.specs.declared.answers.ErrorCode.TheVariants as codes
 use Rattle.x_frames.specs.declared.method.DocumentQuestion.{DocumentQuestion}
 use Rattle.x_frames.specs.declared.method.DocumentQuestion.TheVariants.{Symbols, Folds, Tokens, Text}
 use Rattle.x_frames.specs.declared.method.Question.{Question}
-use Rattle.x_frames.specs.declared.method.Question.TheVariants.{OfDocument}
+use Rattle.x_frames.specs.declared.method.PositionQuestion.{PositionQuestion}
+use Rattle.x_frames.specs.declared.method.Question.TheVariants.{OfDocument, OfPosition}
+use Rattle.x_frames.proofs.TextLemmas.{answer_text_is}
 use Rattle.x_compile.specs.Compile.{Item, tokens_of}
 use Rattle.x_contents.specs.DocumentTexts.{told_text}
 use Rattle.x_contents.specs.Folds.{folds_in}
 use Rattle.x_contents.specs.Symbols.{symbols_in}
+use Rattle.x_contents.specs.Tokens.{numbers_in, tokens_data}
 use Rattle.x_contents.specs.Wanting.{wanted_in}
 use Rattle.x_contents.specs.declared.wanted.Wanted.{Wanted}
 use Rattle.x_documents.specs.Compiled.{IsCompiled}
@@ -37,6 +41,7 @@ use Rattle.x_lsp.specs.Answering.{FindsAt, FindsOf, IsAnsweredAt, IsAnsweredBy, 
 pub of_request : (code : ErrorCode) → is_of_question code ≡ true → is_of_request code ≡ true
 of_request codes.ParseError is = is
 of_request codes.InvalidRequest is = is
+of_request codes.TooLong is = is
 of_request codes.MethodNotFound is = is
 of_request codes.InvalidParams is = is
 of_request codes.InternalError is = is
@@ -52,34 +57,38 @@ code_of (Err code) = code
 
 -- ---- from what is found to what is said
 
-answered_at : (id : Data) (question : Question) (d : Document) (text : Option (List ℕ)) (params : Option Data) (v : Value) (said : Option (List ℕ))
-    → FindsAt question d text params (Ok v) → said ≡ Some (compact_text (answer_data id (view v))) → IsAnsweredAt id question d text params said
-answered_at id question d None params v said finds is = absurd (cc)
-answered_at id question d (Some shown) params v said finds is = inl (view v, is, finds)
+-- the text of an answer with this result
+pub said_so : (id data : Data) (found : List ℕ) (said : Option (List ℕ)) → found ≡ compact_text data → said ≡ Some (answer_text (compact_text id) found) → said ≡ Some (compact_text (answer_data id data))
+said_so id data found said text_is is = is ∙ ap (λ t. Some (answer_text (compact_text id) t)) text_is ∙ ap Some (sym (answer_text_is id data))
 
-pub answered_by : (id : Data) (question : Question) (found : Option Document) (params : Option Data) (v : Value) (said : Option (List ℕ))
-    → FindsOf question found params (Ok v) → said ≡ Some (compact_text (answer_data id (view v))) → IsAnsweredBy id question found params said
-answered_by id question None params v said finds is = absurd (cc)
-answered_by id question (Some d) params v said finds is = answered_at id question d d.text params v said finds is
+answered_at : (id : Data) (question : Question) (d : Document) (text : Option (List ℕ)) (params : Option Data) (found : Vec ℕ Global) (said : Option (List ℕ))
+    → FindsAt question d text params (Ok found) → said ≡ Some (answer_text (compact_text id) found.items) → IsAnsweredAt id question d text params said
+answered_at id question d None params found said finds is = absurd (cc)
+answered_at id question d (Some shown) params found said finds is = inl (finds.0, said_so id finds.0 found.items said finds.1 is, finds.2)
 
-unanswered_at : (id : Data) (question : Question) (d : Document) (text : Option (List ℕ)) (params : Option Data) (v : Value) (said : Option (List ℕ))
-    → FindsAt question d text params (Ok v) → IsRefused id codes.InternalError said → IsAnsweredAt id question d text params said
-unanswered_at id question d None params v said finds refused = absurd (cc)
-unanswered_at id question d (Some shown) params v said finds refused = inr (codes.InternalError, refl, refused)
+pub answered_by : (id : Data) (question : Question) (document : Option Document) (params : Option Data) (found : Vec ℕ Global) (said : Option (List ℕ))
+    → FindsOf question document params (Ok found) → said ≡ Some (answer_text (compact_text id) found.items) → IsAnsweredBy id question document params said
+answered_by id question None params found said finds is = absurd (cc)
+answered_by id question (Some d) params found said finds is = answered_at id question d d.text params found said finds is
+
+unanswered_at : (id : Data) (question : Question) (d : Document) (text : Option (List ℕ)) (params : Option Data) (found : Vec ℕ Global) (said : Option (List ℕ))
+    → FindsAt question d text params (Ok found) → IsRefused id codes.InternalError said → IsAnsweredAt id question d text params said
+unanswered_at id question d None params found said finds refused = absurd (cc)
+unanswered_at id question d (Some shown) params found said finds refused = inr (codes.InternalError, refl, refused)
 
 -- where there was no memory for the answer
-pub unanswered_by : (id : Data) (question : Question) (found : Option Document) (params : Option Data) (v : Value) (said : Option (List ℕ))
-    → FindsOf question found params (Ok v) → IsRefused id codes.InternalError said → IsAnsweredBy id question found params said
-unanswered_by id question None params v said finds refused = absurd (cc)
-unanswered_by id question (Some d) params v said finds refused = unanswered_at id question d d.text params v said finds refused
+pub unanswered_by : (id : Data) (question : Question) (document : Option Document) (params : Option Data) (found : Vec ℕ Global) (said : Option (List ℕ))
+    → FindsOf question document params (Ok found) → IsRefused id codes.InternalError said → IsAnsweredBy id question document params said
+unanswered_by id question None params found said finds refused = absurd (cc)
+unanswered_by id question (Some d) params found said finds refused = unanswered_at id question d d.text params found said finds refused
 
 refused_at : (id : Data) (question : Question) (d : Document) (text : Option (List ℕ)) (params : Option Data) (code : ErrorCode) (said : Option (List ℕ))
     → FindsAt question d text params (Err code) → IsRefused id code said → IsAnsweredAt id question d text params said
 refused_at id question d None params code said finds refused = subst (λ c. IsRefused id c said) (ap code_of finds) refused
 refused_at id question d (Some shown) params code said finds refused = inr (code, finds, refused)
 
-pub refused_by : (id : Data) (question : Question) (found : Option Document) (params : Option Data) (code : ErrorCode) (said : Option (List ℕ))
-    → FindsOf question found params (Err code) → IsRefused id code said → IsAnsweredBy id question found params said
+pub refused_by : (id : Data) (question : Question) (document : Option Document) (params : Option Data) (code : ErrorCode) (said : Option (List ℕ))
+    → FindsOf question document params (Err code) → IsRefused id code said → IsAnsweredBy id question document params said
 refused_by id question None params code said finds refused = subst (λ c. IsRefused id c said) (ap code_of finds) refused
 refused_by id question (Some d) params code said finds refused = refused_at id question d d.text params code said finds refused
 
@@ -100,39 +109,52 @@ on_ground d P is told =
       subst (λ t. Compiles known t (P t)) is.text_is told,
     ))
 
--- the text that `rpcgen/text` asks for
-abbrev IsToldBy : (d : OpenDocument) → (base : List ℕ) → Wanted → Data → List ℕ → List Item → Type 0
-IsToldBy d base w result text items = result ≡ string (utf8_lossy (told_text w base text items))
+-- what compiling a text gives is what compiling the document's gives
+as_compiled : (d : OpenDocument) (of : List Item → Data) (found : List ℕ) → IsCompiled d.files.items d.blanks d.shown d.compiled
+    → Compiles d.compiled.session.known d.compiled.session.text (λ items. found ≡ compact_text (of items))
+    → (data : Data) × (found ≡ compact_text data) × ∥ CompilesOn (view_document d).on d.shown (λ items. data ≡ of items) ∥₁
+as_compiled d of found is told = (of told.1, told.3, on_ground d (λ text items. of told.1 ≡ of items) is (told.0, told.1, told.2, refl))
 
-text_if : (d : OpenDocument) (wanted : Option Wanted) (v : Value) → IsCompiled d.files.items d.blanks d.shown d.compiled
-    → IfSome wanted (λ w. IfOk {E = ErrorCode} (Ok v) (λ v. Compiles d.compiled.session.known d.compiled.session.text
-    (IsToldBy d d.compiled.session.base w (view v) d.compiled.session.text)))
-    → IfSome wanted (λ w. IsTextOf (view_document d) d.shown w (view v))
-text_if d None v is told = tt
-text_if d (Some w) v is told = on_ground d (IsToldBy d (base_of (name_of (string_bytes d.uri))) w (view v)) is
-    (subst (λ b. Compiles d.compiled.session.known d.compiled.session.text (IsToldBy d b w (view v) d.compiled.session.text)) d.based told)
+-- the text that `rpcgen/text` asks for
+text_data : (base : List ℕ) → Wanted → List ℕ → List Item → Data
+text_data base w text items = string (utf8_lossy (told_text w base text items))
+
+text_if : (d : OpenDocument) (params : Option Data) (wanted : Option Wanted) (found : Vec ℕ Global) → wanted ≡ wanted_in params → IsText found.items → IsCompiled d.files.items d.blanks d.shown d.compiled
+    → IfSome wanted (λ w. IfOk {E = ErrorCode} (Ok found) (λ found. Compiles d.compiled.session.known d.compiled.session.text
+    (λ items. found.items ≡ compact_text (text_data d.compiled.session.base w d.compiled.session.text items))))
+    → (data : Data) × (found.items ≡ compact_text data) × IfSome wanted (λ w. IsTextOf (view_document d) d.shown w data)
+unfolding text_data
+text_if d params None found same text is told = (text.0, text.1, tt)
+text_if d params (Some w) found same text is told =
+    let base = base_of (name_of (string_bytes d.uri)) in
+    let data = text_data base w d.compiled.session.text told.1 in (
+      data,
+      told.3 ∙ ap (λ b. compact_text (text_data b w d.compiled.session.text told.1)) d.based,
+      on_ground d (λ text items. data ≡ text_data base w text items) is (told.0, told.1, told.2, refl),
+    )
 
 -- what the session of a document is asked for
-pub record AreFoundIn (q : DocumentQuestion) (encoding : Encoding) (shown : List ℕ) (params : Option Data) (text : FollowedText) (result : Result Value ErrorCode) : Type 0 where
+pub record AreFoundIn (q : DocumentQuestion) (encoding : Encoding) (shown : List ℕ) (params : Option Data) (text : FollowedText) (result : Result (Vec ℕ Global) ErrorCode) : Type 0 where
+  pub text_is : IfOk result (λ found. IsText found.items)
   pub code_is : IfErr result (λ code. is_of_question code ≡ true)
-  pub symbols : q ≡ Symbols → IfOk result (λ v. Compiles text.session.known text.session.text (λ items. view v ≡ array (items_of (symbols_in encoding shown items))))
-  pub folds : q ≡ Folds → IfOk result (λ v. Compiles text.session.known text.session.text (λ items. view v ≡ array (items_of (folds_in shown (tokens_of items)))))
-  pub told : q ≡ Text → IfSome (wanted_in params) (λ w. IfOk result (λ v. Compiles text.session.known text.session.text (λ items. view v
-      ≡ string (utf8_lossy (told_text w text.session.base text.session.text items)))))
+  pub symbols : q ≡ Symbols → IfOk result (λ found. Compiles text.session.known text.session.text (λ items. found.items ≡ compact_text (array (items_of (symbols_in encoding shown items)))))
+  pub folds : q ≡ Folds → IfOk result (λ found. Compiles text.session.known text.session.text (λ items. found.items ≡ compact_text (array (items_of (folds_in shown (tokens_of items))))))
+  pub tokens : q ≡ Tokens → IfOk result (λ found. Compiles text.session.known text.session.text (λ items. found.items ≡ compact_text (tokens_data (numbers_in encoding shown items))))
+  pub told : q ≡ Text → IfSome (wanted_in params) (λ w. IfOk result (λ found. Compiles text.session.known text.session.text (λ items. found.items
+      ≡ compact_text (string (utf8_lossy (told_text w text.session.base text.session.text items))))))
 
 -- what is found of a whole document
-document_found : (d : OpenDocument) (q : DocumentQuestion) (params : Option Data) (result : Result Value ErrorCode) → IsCompiled d.files.items d.blanks d.shown d.compiled
+document_found : (d : OpenDocument) (q : DocumentQuestion) (params : Option Data) (result : Result (Vec ℕ Global) ErrorCode) → IsCompiled d.files.items d.blanks d.shown d.compiled
     → AreFoundIn q d.client.encoding d.shown params d.compiled result → FindsAt (OfDocument q) (view_document d) (Some d.shown) params result
+unfolding text_data
 document_found d q params (Err code) is found = found.code_is
-document_found d Symbols params (Ok v) is found =
-    on_ground d (λ text items. view v ≡ array (items_of (symbols_in d.client.encoding d.shown items))) is (found.symbols refl)
-document_found d Folds params (Ok v) is found =
-    on_ground d (λ text items. view v ≡ array (items_of (folds_in d.shown (tokens_of items)))) is (found.folds refl)
-document_found d Tokens params (Ok v) is found = tt
-document_found d Text params (Ok v) is found = text_if d (wanted_in params) v is (found.told refl)
+document_found d Symbols params (Ok text) is found = as_compiled d (λ items. array (items_of (symbols_in d.client.encoding d.shown items))) text.items is (found.symbols refl)
+document_found d Folds params (Ok text) is found = as_compiled d (λ items. array (items_of (folds_in d.shown (tokens_of items)))) text.items is (found.folds refl)
+document_found d Tokens params (Ok text) is found = as_compiled d (λ items. tokens_data (numbers_in d.client.encoding d.shown items)) text.items is (found.tokens refl)
+document_found d Text params (Ok text) is found = text_if d params (wanted_in params) text refl found.text_is is (found.told refl)
 
 -- the same where it is not yet known that the document is in step
-pub in_step_found : (d : OpenDocument) (question : Question) (q : DocumentQuestion) (params : Option Data) (encoding : Encoding) (shown : List ℕ) (text : FollowedText) (result : Result Value ErrorCode)
+pub in_step_found : (d : OpenDocument) (question : Question) (q : DocumentQuestion) (params : Option Data) (encoding : Encoding) (shown : List ℕ) (text : FollowedText) (result : Result (Vec ℕ Global) ErrorCode)
     → d.in_step ≡ true → question ≡ OfDocument q → encoding ≡ d.client.encoding → shown ≡ d.shown → text ≡ d.compiled → AreFoundIn q encoding shown params text result
     → FindsAt question (view_document d) (if d.in_step then Some d.shown else None) params result
 in_step_found d question q params encoding shown text result step is counts shows same found =
@@ -142,3 +164,17 @@ in_step_found d question q params encoding shown text result step is counts show
     (subst (λ (t : FollowedText). AreFoundIn q d.client.encoding d.shown params t result) same
     (subst (λ s. AreFoundIn q d.client.encoding s params text result) shows
     (subst (λ (e : Encoding). AreFoundIn q e shown params text result) counts found)))))
+
+-- what is found at a place
+place_found : (d : OpenDocument) (q : PositionQuestion) (params : Option Data) (result : Result (Vec ℕ Global) ErrorCode) → IfOk result (λ found. IsText found.items) → IfErr result (λ code. is_of_question code ≡ true)
+    → FindsAt (OfPosition q) (view_document d) (Some d.shown) params result
+place_found d q params (Ok found) text code = (text.0, text.1, tt)
+place_found d q params (Err code) text is = is
+
+pub in_step_place_found : (d : OpenDocument) (question : Question) (q : PositionQuestion) (params : Option Data) (result : Result (Vec ℕ Global) ErrorCode)
+    → d.in_step ≡ true → question ≡ OfPosition q → IfOk result (λ found. IsText found.items) → IfErr result (λ code. is_of_question code ≡ true)
+    → FindsAt question (view_document d) (if d.in_step then Some d.shown else None) params result
+in_step_place_found d question q params result step is text code =
+    subst (λ (u : Question). FindsAt u (view_document d) (if d.in_step then Some d.shown else None) params result) (sym is)
+    (subst (λ (b : Bool). FindsAt (OfPosition q) (view_document d) (if b then Some d.shown else None) params result) (sym step)
+    (place_found d q params result text code))

@@ -1,23 +1,61 @@
 -- How a conversation goes on.
 use Rattle.std.proofs.Common.{◌≡◌, ℕ, ◌≤◌, arith, Bool, true, false, List, [], ◌∷◌, ◌++◌, length, Option, Some, None, Ok, Err, inl, inr, refl, sym, ap, subst, ◌∙◌, append_assoc, append-nil}
-use Rattle.std.specs.Prelude.{IfSome}
+use Rattle.std.specs.Prelude.{IfSome, MatchBool, nat_lt}
 use Rattle.std.specs.Io.KnownBytes.{Consumes, IsAtEnd}
 use Rattle.std.proofs.KnownBytes.{Appends-nil}
+use Rattle.std.proofs.lemmas.Bool.{ltb-false, ltb-true}
 use Rattle.httparse.specs.Grammar.{ReadsSection}
 use Rattle.httparse.proofs.GrammarLemmas.{ReadsSection-append}
 use Rattle.x_streams.specs.Streams.{Stream}
 use Rattle.x_streams.specs.Writing.{Adds, Inked, Writes, counted}
 use Rattle.x_streams.proofs.Pens.{all_written, counted_all, front_written, writes_none}
 use Rattle.x_frames.specs.Answers.{framed_if}
-use Rattle.x_frames.specs.Framing.{FrameReading, IsFramed, IsUnframed, ReadsFrame}
+use Rattle.x_frames.specs.Framing.{FrameReading, IsFramed, IsUnframed, ReadsFrame, most_body}
 use Rattle.x_frames.specs.Lives.{end_of}
-use Rattle.x_lsp.specs.Serving.{AreServed, Exchange, HasFailed, HasServed, HasStopped, Serves, stop_by, written_of}
+use Rattle.x_lsp.specs.Serving.{AreServed, Exchange, HasFailed, HasServed, HasStopped, IsAnswered, Serves, stop_by, written_of}
 use Rattle.x_frames.specs.declared.framing.FrameFault.{FrameFault}
 use Rattle.x_frames.specs.declared.framing.FrameFault.TheVariants as frame
-use Rattle.x_frames.specs.declared.framing.FrameFound.TheVariants.{Message, End}
+use Rattle.x_frames.specs.declared.framing.FrameFound.TheVariants.{Message, Long, End}
 use Rattle.x_documents.specs.Grounds.{Ground}
-use Rattle.x_lsp.specs.States.{IsServed, ServerState, fresh}
+use Rattle.x_lsp.specs.States.{IsPassedOver, IsServed, IsTaken, ServerState, fresh}
 use Rattle.x_lsp.specs.declared.serving.ServeFault.TheVariants.{NoMemory, Write}
+
+-- ---- one message
+
+served_as : (long : Bool) (s s' : ServerState) (body : List ℕ) (said : Option (List ℕ)) → (long ≡ true → IsPassedOver s said s') → (long ≡ false → IsTaken s body said s') → MatchBool long (IsPassedOver s said s') (IsTaken s body said s')
+served_as true s s' body said passed taken = passed refl
+served_as false s s' body said passed taken = taken refl
+
+-- a message that was read is answered
+pub message_answered : (reader reader' : FrameReading) (left left' : Option (List ℕ)) (state state' : ServerState) (p q : Inked) (now now' : Stream) (said : Option (List ℕ))
+    → ReadsFrame reader reader' left left' (Ok Message) → IsTaken state reader'.body said state' → Adds p now q now' (framed_if said) → IsAnswered reader reader' left left' state state' p now q now'
+message_answered reader reader' left left' state state' p q now now' said reads taken adds =
+    let short = reads.found.1 in
+    record {
+      come = reads.come;
+      from_tap = reads.from_tap;
+      body = reader'.body;
+      framed_is = reads.found.0;
+      said = said;
+      served = served_as (nat_lt most_body (length reader'.body)) state state' reader'.body said (λ long. let lt = ltb-true most_body (length reader'.body) long in absurd (omega (arith, short, lt))) (λ no. taken);
+      adds = adds;
+    }
+
+-- one that was too long is refused
+pub long_answered : (reader reader' : FrameReading) (left left' : Option (List ℕ)) (state state' : ServerState) (p q : Inked) (now now' : Stream) (said : Option (List ℕ))
+    → ReadsFrame reader reader' left left' (Ok Long) → IsPassedOver state said state' → Adds p now q now' (framed_if said) → IsAnswered reader reader' left left' state state' p now q now'
+long_answered reader reader' left left' state state' p q now now' said reads passed adds =
+    let body = reads.found.0 in
+    let long = reads.found.2 in
+    record {
+      come = reads.come;
+      from_tap = reads.from_tap;
+      body = body;
+      framed_is = reads.found.1;
+      said = said;
+      served = served_as (nat_lt most_body (length body)) state state' body said (λ yes. passed) (λ no. let le = ltb-false most_body (length body) no in absurd (omega (arith, long, le)));
+      adds = adds;
+    }
 
 module _ (on : Ground) where
   -- ---- messages
@@ -31,7 +69,6 @@ module _ (on : Ground) where
     length_is = f.length_is;
     few = f.few;
     short_head = f.short_head;
-    short_body = f.short_body;
   }
 
   -- more follows
@@ -126,14 +163,12 @@ module _ (on : Ground) where
   no_fewer_then a b c d is first second = omega (arith, is, first, second)
 
   pub behind : (input : List ℕ) (start : Stream) (state state' : ServerState) (reader reader' : FrameReading) (left left' : Option (List ℕ)) (p q r : Inked) (now now' now'' : Stream)
-      → IsBetween input start state reader left p now → ReadsFrame reader reader' left left' (Ok Message)
-      → ((said : Option (List ℕ)) × IsServed state reader'.body said state' × Adds p now q now' (framed_if said)) → Adds q now' r now'' []
+      → IsBetween input start state reader left p now → IsAnswered reader reader' left left' state state' p now q now' → Adds q now' r now'' []
       → IsBehind input start state' reader' left' r now''
-  behind input start state state' reader reader' left left' p q r now now' now'' h reads answers flushed =
-      let said = answers.0 in
-      let x : Exchange = record { body = reader'.body; said = said; state = state' } in
-      let read = read_more input h.served state reader.unread reads.come left left' h.has_read reads.from_tap in
-      let writes = flushed.goes_on start (written_of h.served ++ framed_if said) (answers.2.goes_on start (written_of h.served) h.writes) in
+  behind input start state state' reader reader' left left' p q r now now' now'' h answered flushed =
+      let x : Exchange = record { body = answered.body; said = answered.said; state = state' } in
+      let read = read_more input h.served state reader.unread answered.come left left' h.has_read answered.from_tap in
+      let writes = flushed.goes_on start (written_of h.served ++ framed_if answered.said) (answered.adds.goes_on start (written_of h.served) h.writes) in
       record {
         earlier = h.served;
         last = x;
@@ -143,10 +178,10 @@ module _ (on : Ground) where
           later = read.later;
           left_is = read.left_is;
           input_is = read.input_is;
-          are_served = served_then (fresh on) state h.served x read.read (reader.unread ++ reads.come) reader'.unread read.are_served h.alive reads.found answers.1;
+          are_served = served_then (fresh on) state h.served x read.read (reader.unread ++ answered.come) reader'.unread read.are_served h.alive answered.framed_is answered.served;
         };
-        writes = subst (λ t. Writes start t r now'') (append-nil (written_of h.served ++ framed_if said) ∙ sym (written_then h.served x)) writes;
-        whole = no_fewer_then (counted (length (written_of h.served))) p.written q.written r.written (counted_all p start now (written_of h.served) h.goes h.empty h.writes) answers.2.no_fewer flushed.no_fewer;
+        writes = subst (λ t. Writes start t r now'') (append-nil (written_of h.served ++ framed_if answered.said) ∙ sym (written_then h.served x)) writes;
+        whole = no_fewer_then (counted (length (written_of h.served))) p.written q.written r.written (counted_all p start now (written_of h.served) h.goes h.empty h.writes) answered.adds.no_fewer flushed.no_fewer;
       }
 
   pub between : (input : List ℕ) (start : Stream) (state : ServerState) (reader : FrameReading) (left : Option (List ℕ)) (pen : Inked) (now : Stream)

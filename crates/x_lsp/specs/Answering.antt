@@ -1,20 +1,21 @@
 -- What is answered to questions about documents: of the document that a question names, at its text.
 use Rattle.std.specs.Prelude.{◌≡◌, ◌⊎◌, ℕ, List, true, IfSome, Option, None, Some, Result, Ok, Err}
 use Rattle.std.specs.Prelude.{option_and_then}
+use Rattle.std.specs.Global.{Global}
 use Rattle.std.specs.Str.Lossy.{utf8_lossy}
+use Rattle.std.specs.declared.vec.Vec.{Vec}
 use Rattle.serde_json.specs.Data.{Data, array, string}
-use Rattle.serde_json.specs.View.{items_of, view}
+use Rattle.serde_json.specs.View.{items_of}
 use Rattle.serde_json.specs.Written.{compact_text}
-use Rattle.serde_json.specs.declared.value.Value.{Value}
 use Rattle.x_args.specs.BaseNames.{base_of}
 use Rattle.x_frames.specs.Answers.{IsRefused, answer_data}
 use Rattle.x_frames.specs.Lives.{is_of_question}
 use Rattle.x_frames.specs.Params.{uri_in}
 use Rattle.x_frames.specs.declared.answers.ErrorCode.{ErrorCode}
 use Rattle.x_frames.specs.declared.answers.ErrorCode.TheVariants.{ContentModified, InvalidParams}
-use Rattle.x_frames.specs.declared.method.DocumentQuestion.TheVariants.{Folds, Symbols, Text}
+use Rattle.x_frames.specs.declared.method.DocumentQuestion.TheVariants.{Folds, Symbols, Text, Tokens}
 use Rattle.x_frames.specs.declared.method.Question.{Question}
-use Rattle.x_frames.specs.declared.method.Question.TheVariants.{OfDocument}
+use Rattle.x_frames.specs.declared.method.Question.TheVariants.{OfDocument, OfPosition}
 use Rattle.x_documents.specs.DocumentNames.{name_of}
 use Rattle.x_documents.specs.Documents.{Document, document_of}
 use Rattle.x_documents.specs.Grounds.{CompilesOn, compiled_of}
@@ -22,6 +23,7 @@ use Rattle.x_compile.specs.Compile.{tokens_of}
 use Rattle.x_contents.specs.DocumentTexts.{told_text}
 use Rattle.x_contents.specs.Folds.{folds_in}
 use Rattle.x_contents.specs.Symbols.{symbols_in}
+use Rattle.x_contents.specs.Tokens.{numbers_in, tokens_data}
 use Rattle.x_contents.specs.Wanting.{wanted_in}
 use Rattle.x_contents.specs.declared.wanted.Wanted.{Wanted}
 
@@ -41,13 +43,19 @@ abbrev pub AreFoldsOf : Document → (shown : List ℕ) → Data → Type 0
 AreFoldsOf d shown result =
     ∥ CompilesOn d.on shown (λ items. result ≡ array (items_of (folds_in shown (tokens_of items)))) ∥₁
 
--- the result of a question about a document whose text is this; of most questions nothing is said here
+-- it is what the tokens of the text that is shown are, by what is compiled of it
+abbrev pub AreTokensOf : Document → (shown : List ℕ) → Data → Type 0
+AreTokensOf d shown result =
+    ∥ CompilesOn d.on shown (λ items. result ≡ tokens_data (numbers_in d.client.encoding shown items)) ∥₁
+
+-- the result of a question about a document whose text is this; of questions about a place nothing is said here
 abbrev pub IsResultOf : Question → Document → (shown : List ℕ) → (params : Option Data) → Data → Type 0
 IsResultOf (OfDocument Text) d shown params result = IfSome (wanted_in params)
     (λ wanted. IsTextOf d shown wanted result)
 IsResultOf (OfDocument Symbols) d shown params result = AreSymbolsOf d shown result
 IsResultOf (OfDocument Folds) d shown params result = AreFoldsOf d shown result
-IsResultOf question d shown params result = Unit {0}
+IsResultOf (OfDocument Tokens) d shown params result = AreTokensOf d shown result
+IsResultOf (OfPosition question) d shown params result = Unit {0}
 
 -- the document that a question names, if it is open
 abbrev pub asked_document : List Document → (params : Option Data) → Option Document
@@ -73,11 +81,13 @@ IsAnsweredBy id question (Some d) params said = IsAnsweredAt id question d d.tex
 -- ---- what the program finds
 
 abbrev pub FindsAt : Question → Document → (text : Option (List ℕ)) → (params : Option Data)
-    → Result Value ErrorCode → Type 0
+    → Result (Vec ℕ Global) ErrorCode → Type 0
 FindsAt question d None params result = result ≡ Err ContentModified
-FindsAt question d (Some shown) params (Ok v) = IsResultOf question d shown params (view v)
+FindsAt question d (Some shown) params (Ok found) =
+    (data : Data) × (found.items ≡ compact_text data) × IsResultOf question d shown params data
 FindsAt question d (Some shown) params (Err code) = is_of_question code ≡ true
 
-abbrev pub FindsOf : Question → Option Document → (params : Option Data) → Result Value ErrorCode → Type 0
+abbrev pub FindsOf : Question → Option Document → (params : Option Data) → Result (Vec ℕ Global) ErrorCode
+    → Type 0
 FindsOf question None params result = result ≡ Err InvalidParams
 FindsOf question (Some d) params result = FindsAt question d d.text params result

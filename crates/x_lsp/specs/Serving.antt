@@ -9,15 +9,16 @@ use Rattle.x_args.specs.Telling.{Complains, IsTold}
 use Rattle.x_args.specs.declared.status.Status.{Status}
 use Rattle.x_args.specs.declared.status.Status.TheVariants.{Done, Faulty, Failed}
 use Rattle.x_frames.specs.Answers.{framed_if}
-use Rattle.x_frames.specs.Framing.{IsFramed, IsUnframed}
+use Rattle.x_frames.specs.Framing.{FrameReading, IsFramed, IsUnframed, ReadsFrame}
 use Rattle.x_frames.specs.Lives.{end_of}
 use Rattle.x_frames.specs.declared.framing.FrameFault.{FrameFault}
 use Rattle.x_frames.specs.declared.framing.FrameFault.TheVariants as frame
-use Rattle.x_frames.specs.declared.framing.FrameFound.{FrameFound}
-use Rattle.x_frames.specs.declared.framing.FrameFound.TheVariants.{Message}
+use Rattle.x_frames.specs.declared.framing.FrameFound.TheVariants.{End}
 use Rattle.x_frames.specs.declared.life.Life.{Life}
 use Rattle.x_documents.specs.Grounds.{Ground}
 use Rattle.x_lsp.specs.States.{IsServed, ServerState, fresh}
+use Rattle.x_lsp.specs.declared.serving.Next.{Next}
+use Rattle.x_lsp.specs.declared.serving.Next.TheVariants.{Answered, NoMore}
 use Rattle.x_lsp.specs.declared.serving.ServeFault.{ServeFault}
 use Rattle.x_lsp.specs.declared.serving.ServeFault.TheVariants.{Read, Bad, Write, NoMemory}
 
@@ -125,9 +126,28 @@ stop_by frame.Read count = Read count
 stop_by frame.NoMemory count = NoMemory count
 stop_by frame.Bad count = Bad count
 
--- where a message was found it is answered, and else nothing is done
-abbrev pub IsAnswered : Result FrameFound FrameFault → (state state' : ServerState) (body : List ℕ)
-    → (p : Inked) (now : Stream) (q : Inked) (now' : Stream) → Type 0
-IsAnswered (Ok Message) state state' body p now q now' =
-    (said : Option (List ℕ)) × IsServed state body said state' × Adds p now q now' (framed_if said)
-IsAnswered found state state' body p now q now' = (state' ≡ state) × (q ≡ p) × (now' ≡ now)
+-- the next message is answered, over a tap that had `left` and has `left'`
+pub record IsAnswered (reader reader' : FrameReading) (left left' : Option (List ℕ)) (state state' : ServerState)
+    (p : Inked) (now : Stream) (q : Inked) (now' : Stream) : Type 0 where
+  pub come : List ℕ
+  pub from_tap : Consumes left left' come
+  pub body : List ℕ
+  pub framed_is : IsFramed (reader.unread ++ come) body reader'.unread
+  pub said : Option (List ℕ)
+  pub served : IsServed state body said state'
+  pub adds : Adds p now q now' (framed_if said)
+
+-- nothing is done where there is none
+abbrev pub IsNotAnswered : (state state' : ServerState) (p : Inked) (now : Stream) (q : Inked) (now' : Stream)
+    → Type 0
+IsNotAnswered state state' p now q now' = (state' ≡ state) × (q ≡ p) × (now' ≡ now)
+
+abbrev pub AnswersNext : Result Next FrameFault → (reader reader' : FrameReading)
+    → (left left' : Option (List ℕ)) → (state state' : ServerState) (p : Inked) (now : Stream) (q : Inked)
+    (now' : Stream) → Type 0
+AnswersNext (Ok Answered) reader reader' left left' state state' p now q now' =
+    IsAnswered reader reader' left left' state state' p now q now'
+AnswersNext (Ok NoMore) reader reader' left left' state state' p now q now' =
+    ReadsFrame reader reader' left left' (Ok End) × IsNotAnswered state state' p now q now'
+AnswersNext (Err fault) reader reader' left left' state state' p now q now' =
+    ReadsFrame reader reader' left left' (Err fault) × IsNotAnswered state state' p now q now'

@@ -1,15 +1,18 @@
 -- A server as a state, and what a message makes of it. It has a place in its life, a client, what it compiles
 -- documents on, and the documents that are open.
-use Rattle.std.specs.Prelude.{◌≡◌, ◌⊎◌, ℕ, Bool, true, false, MatchBool, List, [], map, codes, IsUtf8}
+use Rattle.std.specs.Prelude.{◌≡◌, ◌⊎◌, ℕ, Bool, true, false, MatchBool, List, [], length, map, codes}
+use Rattle.std.specs.Prelude.{IsUtf8, nat_lt}
 use Rattle.std.specs.Prelude.{Option, None, Some}
-use Rattle.serde_json.specs.Data.{Data}
+use Rattle.serde_json.specs.Data.{Data, null}
 use Rattle.serde_json.specs.Find.{get}
 use Rattle.serde_json.specs.Read.{read}
-use Rattle.x_frames.specs.Answers.{IsSaid}
+use Rattle.x_frames.specs.Answers.{IsRefused, IsSaid}
+use Rattle.x_frames.specs.Framing.{most_body}
 use Rattle.x_frames.specs.KeptSaid.{no_memory_answer}
 use Rattle.x_frames.specs.Lives.{method_named}
 use Rattle.x_frames.specs.Messages.{Asked, asked_by, request, notification, response, invalid}
 use Rattle.x_frames.specs.Notes.{noted_by}
+use Rattle.x_frames.specs.declared.answers.ErrorCode.TheVariants.{TooLong}
 use Rattle.x_frames.specs.declared.life.Life.{Life}
 use Rattle.x_frames.specs.declared.life.Life.TheVariants.{Fresh, Running, ShutDown, Ended}
 use Rattle.x_frames.specs.declared.method.Method.{Method}
@@ -89,11 +92,22 @@ pub data Makes (s : ServerState) (body : List ℕ) (said : Option (List ℕ)) (s
   by_no_json : (IsUtf8 body → read body ≡ None) → LosesAll s s' → Makes s body said s'
   by_no_memory : said ≡ Some no_memory_answer → LosesAll s s' → Makes s body said s'
 
--- what is said to a body, and what it makes of a server
-pub record IsServed (s : ServerState) (body : List ℕ) (said : Option (List ℕ)) (s' : ServerState) : Type 0
+-- what is said to a body that is read, and what it makes of a server
+pub record IsTaken (s : ServerState) (body : List ℕ) (said : Option (List ℕ)) (s' : ServerState) : Type 0
   where
     pub is_said : IsSaid s.life body said s'.life
     pub makes : Makes s body said s'
+
+-- a body that is too long to be read is refused
+pub record IsPassedOver (s : ServerState) (said : Option (List ℕ)) (s' : ServerState) : Type 0 where
+  pub is_refused : IsRefused null TooLong said
+  pub life_stays : s'.life ≡ s.life
+  pub loses : LosesAll s s'
+
+-- what is said to a body, and what it makes of a server
+abbrev pub IsServed : ServerState → (body : List ℕ) → (said : Option (List ℕ)) → ServerState → Type 0
+IsServed s body said s' =
+    MatchBool (nat_lt most_body (length body)) (IsPassedOver s said s') (IsTaken s body said s')
 
 -- the server of the program
 abbrev pub state_of : Server → ServerState

@@ -9,15 +9,17 @@ ghost use Rattle.x_documents.specs.Grounds.{ground_of};
 ghost use Rattle.x_documents.specs.Noting.{Notes};
 ghost use Rattle.x_documents.specs.Replies.{said_of};
 ghost use Rattle.x_documents.specs.Views.{documents_of, view_document};
-ghost use Rattle.x_frames.specs.Answers.{IsRefused, IsSaid, IsSaidTo, IsToMethod, IsToNotification};
+ghost use Rattle.x_frames.specs.Answers.{IsRefused, IsSaid, IsSaidTo, IsText, IsToMethod, IsToNotification};
 ghost use Rattle.x_frames.specs.Answers.{IsToRequest};
-ghost use Rattle.x_frames.specs.Lives.{end_of, is_of_request, life_behind, life_noted, method_named};
+ghost use Rattle.x_frames.specs.Lives.{end_of, is_of_question, is_of_request, life_behind, life_noted};
+ghost use Rattle.x_frames.specs.Lives.{method_named};
 ghost use Rattle.x_frames.specs.Messages.{asked_by};
 ghost use Rattle.x_frames.specs.Notes.{noted_by};
 ghost use Rattle.x_frames.specs.declared.life.Life.TheVariants.{Running};
 ghost use Rattle.x_frames.specs.declared.method.Method.TheVariants.{Ask, Initialize};
 ghost use Rattle.x_lsp.specs.Answering.{FindsAt, FindsOf, IsAnsweredBy, asked_document};
-ghost use Rattle.x_lsp.specs.States.{GoesBy, GoesBySame, IsAskedOf, IsInitialized, Makes, MakesOf};
+ghost use Rattle.x_lsp.specs.States.{GoesBy, GoesBySame, IsAskedOf, IsInitialized, IsPassedOver, Makes};
+ghost use Rattle.x_lsp.specs.States.{MakesOf};
 ghost use Rattle.x_lsp.specs.States.{fresh, is_running, state_of};
 
 use serde_json::Value;
@@ -25,8 +27,8 @@ use std::alloc::{AllocError, Global};
 use x_contents::answer_about_document;
 use x_documents::{Documents, KeptTexts, OpenDocument, Reply, Setting, refused};
 use x_frames::{
-    ErrorCode, Incoming, Life, Method, Question, answer, capabilities_of, classify, document_note,
-    uri_in,
+    ErrorCode, Incoming, Life, Method, PositionQuestion, Question, answer, capabilities_of,
+    classify, document_note, result_text, uri_in,
 };
 use x_hash::HashKey;
 use x_positions::Encoding;
@@ -98,6 +100,14 @@ impl<'k> Server<'k> {
         refused(self.alloc, &Value::Null, ErrorCode::ParseError)
     }
 
+    /// Refuses a message that was too long to be read, which may have been a change of any document.
+    pub fn refuse_long(&mut self) -> Reply
+        ensures { IsPassedOver (state_of self.old) (said_of result) (state_of self.new) }
+    {
+        let _ = self.documents.lose_all();
+        refused(self.alloc, &Value::Null, ErrorCode::TooLong)
+    }
+
     /// Does what a message asks for, and answers what is said to it.
     fn reply_to(&mut self, message: &Value) -> Reply
         ensures said { IsSaidTo self.old.life (asked_by (view message.now)) (said_of result) self.new.life }
@@ -145,7 +155,7 @@ impl<'k> Server<'k> {
             (said_of result) }
     {
         match self.result_of(method, params) {
-            Ok(value) => match answer(self.alloc, id, value) {
+            Ok(found) => match answer(self.alloc, id, &found) {
                 Ok(text) => {
                     self.go_on(method, params);
                     Reply::Text(text)
@@ -156,9 +166,9 @@ impl<'k> Server<'k> {
         }
     }
 
-    /// The result of a request.
-    fn result_of(&self, method: Method, params: Option<&Value>) -> Result<Value, ErrorCode>
-        ensures value { IfOk result (λ v. has_float (view v) ≡ false) }
+    /// The result of a request, as JSON.
+    fn result_of(&self, method: Method, params: Option<&Value>) -> Result<Vec<u8>, ErrorCode>
+        ensures text { IfOk result (λ text. IsText text.items) }
         ensures code { IfErr result (λ code. is_of_request code ≡ true) }
         ensures asked { (question : Question) → method ≡ Ask question
             → FindsOf question (asked_document (documents_of self.now.documents)
@@ -167,17 +177,17 @@ impl<'k> Server<'k> {
     {
         match method {
             Method::Initialize => match capabilities_of(self.alloc, client_in(params).encoding) {
-                Ok(value) => Ok(value),
+                Ok(value) => result_text(self.alloc, &value),
                 Err(_) => Err(ErrorCode::InternalError),
             },
-            Method::Shutdown => Ok(Value::Null),
+            Method::Shutdown => result_text(self.alloc, &Value::Null),
             Method::Ask(question) => self.asked(question, params),
         }
     }
 
-    /// The result of a question about a document, which must be open.
-    fn asked(&self, question: Question, params: Option<&Value>) -> Result<Value, ErrorCode>
-        ensures value { IfOk result (λ v. has_float (view v) ≡ false) }
+    /// The result of a question about a document, which must be open, as JSON.
+    fn asked(&self, question: Question, params: Option<&Value>) -> Result<Vec<u8>, ErrorCode>
+        ensures text { IfOk result (λ text. IsText text.items) }
         ensures code { IfErr result (λ code. is_of_request code ≡ true) }
         ensures finds { FindsOf question (asked_document (documents_of self.now.documents)
             (option_map (λ p. view p.now) params.entry)) (option_map (λ p. view p.now) params.entry)
@@ -192,14 +202,14 @@ impl<'k> Server<'k> {
         }
     }
 
-    /// The result of a question about an open document, which must be in step.
+    /// The result of a question about an open document, which must be in step, as JSON.
     fn asked_of(
         &self,
         document: &OpenDocument,
         question: Question,
         params: Option<&Value>,
-    ) -> Result<Value, ErrorCode>
-        ensures value { IfOk result (λ v. has_float (view v) ≡ false) }
+    ) -> Result<Vec<u8>, ErrorCode>
+        ensures text { IfOk result (λ text. IsText text.items) }
         ensures code { IfErr result (λ code. is_of_request code ≡ true) }
         ensures finds { FindsAt question (view_document document.now) (view_document document.now).text
             (option_map (λ p. view p.now) params.entry) result }
@@ -216,22 +226,35 @@ impl<'k> Server<'k> {
                 question,
                 params,
             ),
-            Question::OfPosition(question) => {
-                let text = OpenText {
-                    uri: document.uri(),
-                    shown: document.shown(),
-                    compiled: document.compiled(),
-                };
-                answer_about_place(
-                    self.alloc,
-                    document.encoding(),
-                    &text,
-                    document.place_asked(params),
-                    question,
-                    params,
-                )
-            }
+            Question::OfPosition(question) => self.asked_at(document, question, params),
         }
+    }
+
+    /// The result of a question about a place in an open document, as JSON.
+    fn asked_at(
+        &self,
+        document: &OpenDocument,
+        question: PositionQuestion,
+        params: Option<&Value>,
+    ) -> Result<Vec<u8>, ErrorCode>
+        ensures text { IfOk result (λ text. IsText text.items) }
+        ensures code { IfErr result (λ code. is_of_question code ≡ true) }
+    {
+        let text = OpenText {
+            uri: document.uri(),
+            shown: document.shown(),
+            compiled: document.compiled(),
+        };
+        let place = document.place_asked(params);
+        let found = answer_about_place(
+            self.alloc,
+            document.encoding(),
+            &text,
+            place,
+            question,
+            params,
+        )?;
+        result_text(self.alloc, &found)
     }
 
     /// Goes on with the server's life behind a request that was answered.

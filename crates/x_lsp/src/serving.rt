@@ -3,10 +3,10 @@
 ghost use Rattle.std.specs.Prelude.{◌≡◌, MatchOption};
 ghost use Rattle.x_streams.specs.Writing.{Adds};
 ghost use Rattle.x_frames.specs.Answers.{framed, framed_if};
-ghost use Rattle.x_frames.specs.Framing.{FailsReading, ReadsFrame};
+ghost use Rattle.x_frames.specs.Framing.{FailsReading};
 ghost use Rattle.x_documents.specs.Grounds.{ground_of};
 ghost use Rattle.x_documents.specs.Replies.{said_of};
-ghost use Rattle.x_lsp.specs.Serving.{IsAnswered, NamesFault, Serves, stop_by};
+ghost use Rattle.x_lsp.specs.Serving.{AnswersNext, NamesFault, Serves, stop_by};
 ghost use Rattle.x_lsp.specs.States.{fresh, state_of};
 
 use crate::server::Server;
@@ -83,8 +83,8 @@ fn converse<I: Tap, O: Sink>(
     let mut pen = Pen::new();
     for _ in 0..u64::MAX {
         match answer_next(server, &mut reader, input, &mut pen, out) {
-            Ok(FrameFound::Message) => {}
-            Ok(FrameFound::End) => return Ok(false),
+            Ok(Next::Answered) => {}
+            Ok(Next::NoMore) => return Ok(false),
             Err(fault) => return Err(stop_by(fault, pen.written())),
         }
         pen.flush(out);
@@ -114,6 +114,15 @@ fn stop_by(fault: FrameFault, written: u64) -> ServeFault
     }
 }
 
+/// What became of the next message.
+#[derive(Clone, Copy, Debug, PartialEq, Eq)]
+enum Next {
+    /// It is answered.
+    Answered,
+    /// There are no more.
+    NoMore,
+}
+
 /// Finds the next message and answers it.
 fn answer_next<I: Tap, O: Sink>(
     server: &mut Server,
@@ -121,20 +130,24 @@ fn answer_next<I: Tap, O: Sink>(
     input: &mut I,
     pen: &mut Pen,
     out: &mut O,
-) -> Result<FrameFound, FrameFault>
-    ensures reads { ReadsFrame reader.old reader.new (I.state input.old).bytes (I.state input.new).bytes
-        result }
-    ensures answers { IsAnswered result (state_of server.old) (state_of server.new) reader.new.body
-        pen.old (O.state out.old) pen.new (O.state out.new) }
+) -> Result<Next, FrameFault>
+    ensures answers { AnswersNext result reader.old reader.new (I.state input.old).bytes
+        (I.state input.new).bytes (state_of server.old) (state_of server.new) pen.old (O.state out.old)
+        pen.new (O.state out.new) }
     ensures failed { FailsReading result (I.state input.old).failed (I.state input.new).failed }
 {
     match reader.next(input) {
         Ok(FrameFound::Message) => {
             let reply = server.reply(reader.body());
             add_reply(server, &reply, pen, out);
-            Ok(FrameFound::Message)
+            Ok(Next::Answered)
         }
-        Ok(FrameFound::End) => Ok(FrameFound::End),
+        Ok(FrameFound::Long) => {
+            let reply = server.refuse_long();
+            add_reply(server, &reply, pen, out);
+            Ok(Next::Answered)
+        }
+        Ok(FrameFound::End) => Ok(Next::NoMore),
         Err(fault) => Err(fault),
     }
 }

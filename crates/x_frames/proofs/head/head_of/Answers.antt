@@ -10,21 +10,13 @@ returns-then-end-gt-MOST_HEAD c =
     let s = c.requires.section in
     let len = s.2.len_is in
     let over = c.if-end-gt-MOST_HEAD.true in
-    refused_head c.args.bytes.now (drop c.args.end c.args.bytes.now) s.0 s.1 s.2.reads (λ n e small short. omega (arith, len, over, short))
+    refused_head c.args.bytes.now (drop c.args.end c.args.bytes.now) s.0 s.1 s.2.reads (λ n e short. omega (arith, len, over, short))
 
 pub returns-in_default : goal.returns-in_default
 returns-in_default c =
     let s = c.requires.section in
     let none = c.in_default.ensures ∙ ap announced s.2.fields_are in
-    refused_head c.args.bytes.now (drop c.args.end c.args.bytes.now) s.0 s.1 s.2.reads (λ n e small short. let wrong = none ∙ e in cc)
-
-pub returns-then-body-gt-MOST_BODY : goal.returns-then-body-gt-MOST_BODY
-returns-then-body-gt-MOST_BODY c =
-    let s = c.requires.section in
-    let some = c.in-Some.ensures ∙ ap announced s.2.fields_are in
-    let over = c.if-body-gt-MOST_BODY.true in
-    refused_head c.args.bytes.now (drop c.args.end c.args.bytes.now) s.0 s.1 s.2.reads
-    (λ n e small short. let same = some ∙ e in let is : c.in-Some.body ≡ n = cc in omega (arith, is, over, small))
+    refused_head c.args.bytes.now (drop c.args.end c.args.bytes.now) s.0 s.1 s.2.reads (λ n e short. let wrong = none ∙ e in cc)
 
 pub returns : goal.returns
 returns c =
@@ -43,5 +35,4 @@ returns c =
       within = c.requires.within.len_fits;
       few = omega (arith, one, two, three, four, room);
       short_head = c.if-end-gt-MOST_HEAD.false;
-      short_body = c.if-body-gt-MOST_BODY.false;
     }

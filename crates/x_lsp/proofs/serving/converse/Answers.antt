@@ -3,8 +3,7 @@ use Rattle.x_session.proofs.Working.{works_at_start, works_on}
 use Rattle.x_text.proofs.Cases.{match_some}
 use Rattle.x_streams.specs.Streams.{Stream}
 use Rattle.x_frames.specs.Answers.{framed_if}
-use Rattle.x_frames.specs.Framing.{ReadsFrame}
-use Rattle.x_lsp.specs.Serving.{IsAnswered, Serves, stop_by}
+use Rattle.x_lsp.specs.Serving.{AnswersNext, Serves, stop_by}
 use Rattle.x_lsp.proofs.ServingLemmas.{at_start, behind, between, at_exit, at_end, at_fault, so_far, at_stop}
 use Rattle.x_documents.specs.Grounds.{ground_of}
 use Rattle.x_lsp.specs.States.{state_of}
@@ -27,19 +26,17 @@ loop-preserved g c =
     let state = (state_of c.loop.server) in
     let state' = (state_of c.answer_next.new.server) in
     let new = c.answer_next.new.reader in
-    let is = c.in-Ok-Message.field-0-is in
-    let reads = subst (λ f. ReadsFrame c.loop.reader new left left' (Ok f)) is c.in-Ok-Message.ensures.reads in
-    let answered = subst (λ f. IsAnswered (Ok f) state state' new.body c.loop.pen now c.answer_next.new.pen now') is c.in-Ok-Message.ensures.answers in
+    let answered = subst (λ n. AnswersNext (Ok n) c.loop.reader new left left' state state' c.loop.pen now c.answer_next.new.pen now') c.in-Ok-Answered.field-0-is c.in-Ok-Answered.ensures.answers in
     let goes = sym c.has_stopped.ensures ∙ c.if-has_stopped.false in (
       works_on start c.loop.pen c.answer_next.new.pen c.flush.new.self now now' now''
-          (g.I.Tap.state c.args.input.now).failed (g.I.Tap.state c.loop.input).failed (g.I.Tap.state c.answer_next.new.input).failed c.loop.invariant.0 (framed_if answered.0, answered.2) c.flush.ensures.adds goes c.flush.ensures.working c.in-Ok-Message.ensures.failed,
+          (g.I.Tap.state c.args.input.now).failed (g.I.Tap.state c.loop.input).failed (g.I.Tap.state c.answer_next.new.input).failed c.loop.invariant.0 (framed_if answered.said, answered.adds) c.flush.ensures.adds goes c.flush.ensures.working c.in-Ok-Answered.ensures.failed,
       λ input e.
-          let done = behind (ground_of c.args.server.now.setting) input start state state' c.loop.reader new left left' c.loop.pen c.answer_next.new.pen c.flush.new.self now now' now'' (c.loop.invariant.1 input e) reads answered c.flush.ensures.adds in
+          let done = behind (ground_of c.args.server.now.setting) input start state state' c.loop.reader new left left' c.loop.pen c.answer_next.new.pen c.flush.new.self now now' now'' (c.loop.invariant.1 input e) answered c.flush.ensures.adds in
           between (ground_of c.args.server.now.setting) input start state' new left' c.flush.new.self now'' done goes (c.flush.ensures.empty goes) (sym c.end.ensures ∙ c.in_default.is),
     )
 
-pub returns-in-Ok-End-clause-serves : goal.returns-in-Ok-End-clause-serves
-returns-in-Ok-End-clause-serves g c = match_some (g.I.Tap.state c.args.input.now).bytes _ (λ input e.
+pub returns-in-Ok-NoMore-clause-serves : goal.returns-in-Ok-NoMore-clause-serves
+returns-in-Ok-NoMore-clause-serves g c = match_some (g.I.Tap.state c.args.input.now).bytes _ (λ input e.
     let start = g.O.Sink.state c.args.out.now in
     let now = g.O.Sink.state c.loop.out in
     let now' = g.O.Sink.state c.answer_next.new.out in
@@ -47,22 +44,20 @@ returns-in-Ok-End-clause-serves g c = match_some (g.I.Tap.state c.args.input.now
     let left' = (g.I.Tap.state c.answer_next.new.input).bytes in
     let state = (state_of c.loop.server) in
     let new = c.answer_next.new.reader in
-    let is = c.in-Ok-End.field-0-is in
-    let reads = subst (λ f. ReadsFrame c.loop.reader new left left' (Ok f)) is c.in-Ok-End.ensures.reads in
-    let same = subst (λ f. IsAnswered (Ok f) state (state_of c.answer_next.new.server) new.body c.loop.pen now c.answer_next.new.pen now') is c.in-Ok-End.ensures.answers in
-    subst (λ (n : Stream). Serves (ground_of c.args.server.now.setting) input left' start n (Ok false)) (sym same.2)
-    (at_end (ground_of c.args.server.now.setting) input start state c.loop.reader new left left' c.loop.pen now (c.loop.invariant.1 input e) reads))
+    let none = subst (λ n. AnswersNext (Ok n) c.loop.reader new left left' state (state_of c.answer_next.new.server) c.loop.pen now c.answer_next.new.pen now') c.in-Ok-NoMore.field-0-is c.in-Ok-NoMore.ensures.answers in
+    subst (λ (n : Stream). Serves (ground_of c.args.server.now.setting) input left' start n (Ok false)) (sym none.1.2)
+    (at_end (ground_of c.args.server.now.setting) input start state c.loop.reader new left left' c.loop.pen now (c.loop.invariant.1 input e) none.0))
 
 pub returns-in-Err-clause-serves : goal.returns-in-Err-clause-serves
 returns-in-Err-clause-serves g c = match_some (g.I.Tap.state c.args.input.now).bytes _ (λ input e.
     let start = g.O.Sink.state c.args.out.now in
     let left' = (g.I.Tap.state c.answer_next.new.input).bytes in
     let fault = c.in-Err.fault in
-    let count_is = c.written.ensures ∙ ap (λ p. p.written) c.in-Err.ensures.answers.1 in
+    let count_is = c.written.ensures ∙ ap (λ p. p.written) c.in-Err.ensures.answers.1.1 in
     subst (λ r. Serves (ground_of c.args.server.now.setting) input left' start (g.O.Sink.state c.answer_next.new.out) (Err r)) (sym c.stop_by.ensures)
-    (subst (λ (n : Stream). Serves (ground_of c.args.server.now.setting) input left' start n (Err (stop_by fault c.written.result))) (sym c.in-Err.ensures.answers.2)
+    (subst (λ (n : Stream). Serves (ground_of c.args.server.now.setting) input left' start n (Err (stop_by fault c.written.result))) (sym c.in-Err.ensures.answers.1.2)
     (at_fault (ground_of c.args.server.now.setting) fault input start (state_of c.loop.server) c.loop.reader c.answer_next.new.reader (g.I.Tap.state c.loop.input).bytes left' c.loop.pen (g.O.Sink.state c.loop.out) c.written.result
-    (c.loop.invariant.1 input e) c.in-Err.ensures.reads count_is)))
+    (c.loop.invariant.1 input e) c.in-Err.ensures.answers.0 count_is)))
 
 pub returns-then-has_stopped-clause-serves : goal.returns-then-has_stopped-clause-serves
 returns-then-has_stopped-clause-serves g c = match_some (g.I.Tap.state c.args.input.now).bytes _ (λ input e.
@@ -75,10 +70,8 @@ returns-then-has_stopped-clause-serves g c = match_some (g.I.Tap.state c.args.in
     let state = (state_of c.loop.server) in
     let state' = (state_of c.answer_next.new.server) in
     let new = c.answer_next.new.reader in
-    let is = c.in-Ok-Message.field-0-is in
-    let reads = subst (λ f. ReadsFrame c.loop.reader new left left' (Ok f)) is c.in-Ok-Message.ensures.reads in
-    let answered = subst (λ f. IsAnswered (Ok f) state state' new.body c.loop.pen now c.answer_next.new.pen now') is c.in-Ok-Message.ensures.answers in
-    let done = behind (ground_of c.args.server.now.setting) input start state state' c.loop.reader new left left' c.loop.pen c.answer_next.new.pen c.flush.new.self now now' now'' (c.loop.invariant.1 input e) reads answered c.flush.ensures.adds in
+    let answered = subst (λ n. AnswersNext (Ok n) c.loop.reader new left left' state state' c.loop.pen now c.answer_next.new.pen now') c.in-Ok-Answered.field-0-is c.in-Ok-Answered.ensures.answers in
+    let done = behind (ground_of c.args.server.now.setting) input start state state' c.loop.reader new left left' c.loop.pen c.answer_next.new.pen c.flush.new.self now now' now'' (c.loop.invariant.1 input e) answered c.flush.ensures.adds in
     at_stop (ground_of c.args.server.now.setting) input start state' new left' c.flush.new.self now'' c.written-then-has_stopped.result done (sym c.has_stopped.ensures ∙ c.if-has_stopped.true) c.written-then-has_stopped.ensures)
 
 pub returns-in-Some-clause-serves : goal.returns-in-Some-clause-serves
@@ -92,11 +85,9 @@ returns-in-Some-clause-serves g c = match_some (g.I.Tap.state c.args.input.now).
     let state = (state_of c.loop.server) in
     let state' = (state_of c.answer_next.new.server) in
     let new = c.answer_next.new.reader in
-    let is = c.in-Ok-Message.field-0-is in
-    let reads = subst (λ f. ReadsFrame c.loop.reader new left left' (Ok f)) is c.in-Ok-Message.ensures.reads in
-    let answered = subst (λ f. IsAnswered (Ok f) state state' new.body c.loop.pen now c.answer_next.new.pen now') is c.in-Ok-Message.ensures.answers in
+    let answered = subst (λ n. AnswersNext (Ok n) c.loop.reader new left left' state state' c.loop.pen now c.answer_next.new.pen now') c.in-Ok-Answered.field-0-is c.in-Ok-Answered.ensures.answers in
     let goes = sym c.has_stopped.ensures ∙ c.if-has_stopped.false in
-    let done = behind (ground_of c.args.server.now.setting) input start state state' c.loop.reader new left left' c.loop.pen c.answer_next.new.pen c.flush.new.self now now' now'' (c.loop.invariant.1 input e) reads answered c.flush.ensures.adds in
+    let done = behind (ground_of c.args.server.now.setting) input start state state' c.loop.reader new left left' c.loop.pen c.answer_next.new.pen c.flush.new.self now now' now'' (c.loop.invariant.1 input e) answered c.flush.ensures.adds in
     at_exit (ground_of c.args.server.now.setting) input start state' new left' c.flush.new.self now'' c.in-Some.asked done goes (c.flush.ensures.empty goes) (sym c.end.ensures ∙ c.in-Some.is))
 
 pub returns-clause-serves : goal.returns-clause-serves
