@@ -30,11 +30,12 @@ position_text p = codes "{\"character\":" ++ decimal p.character ++ codes ",\"li
 
 abbrev pub range_text : Range → Range → List ℕ
 range_text first last =
-    codes "{\"end\":" ++ position_text last.end ++ codes ",\"start\":" ++ position_text first.start ++ codes "}"
+    codes "{\"end\":" ++ position_text last.end ++ codes ",\"start\":" ++ position_text first.start
+    ++ codes "}"
 
 -- the text of a part's symbol, with a comma behind it
-abbrev pub text_by : PartKind → (token : Option Lexeme) → (first name last : Option Range) → (children : List ℕ)
-    → Option (List ℕ)
+abbrev pub text_by : PartKind → (token : Option Lexeme) → (first name last : Option Range)
+    → (children : List ℕ) → Option (List ℕ)
 text_by kind (Some token) (Some first) (Some name) (Some last) children = Some (symbol_text kind
     (utf8_lossy token.text) (range_text first last) (range_text name name) children ++ codes ",")
 text_by kind (Some token) (Some first) (Some name) None children = None

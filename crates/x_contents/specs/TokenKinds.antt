@@ -74,7 +74,8 @@ word_places at (t ∷ ts) =
     if is_significant t.kind then at ∷ word_places (at + 1) ts else word_places (at + 1) ts
 
 -- the token at a place, if there is one, is of this kind
-abbrev pub with_kind : List (Option TokenKind) → (place : Option ℕ) → Option TokenKind → List (Option TokenKind)
+abbrev pub with_kind : List (Option TokenKind) → (place : Option ℕ) → Option TokenKind
+    → List (Option TokenKind)
 with_kind kinds None kind = kinds
 with_kind kinds (Some place) kind = slice_set kinds place kind
 

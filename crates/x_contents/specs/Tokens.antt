@@ -1,5 +1,5 @@
--- How the tokens of a document are told (LSP 3.17, `textDocument/semanticTokens/full`): each is what stands of
--- it in a line, by its distance from the one before.
+-- How the tokens of a document are told (LSP 3.17, `textDocument/semanticTokens/full`): of each what stands
+-- in a line, by its distance from the one before.
 use Rattle.std.specs.Prelude.{ℕ, zero, suc, ◌+◌, ◌-◌, ◌==◌, Bool, false, List, [], ◌∷◌, ◌++◌, map, drop}
 use Rattle.std.specs.Prelude.{codes, decimal, slice_get, Option, None, Some, if◌then◌else◌}
 use Rattle.std.specs.List.{flat_map}
@@ -54,7 +54,7 @@ with_lines encoding shown kind told start end at zero =
     with_part told (position_of encoding shown start) (position_of encoding shown end) kind
 with_lines encoding shown kind told start end at (suc left) = if ends_at shown at
     then with_lines encoding shown kind (with_part told (position_of encoding shown start)
-        (position_of encoding shown at) kind) (at + 1) end (at + 1) left
+    (position_of encoding shown at) kind) (at + 1) end (at + 1) left
     else with_lines encoding shown kind told start end (at + 1) left
 
 -- a token; one that is of no kind is not told
@@ -73,7 +73,7 @@ abbrev pub with_tokens : Encoding → (shown : List ℕ) → List (Option TokenK
 with_tokens encoding shown kinds told at [] = told
 with_tokens encoding shown kinds told at (t ∷ ts) =
     with_tokens encoding shown kinds (with_token encoding shown told t
-        (kind_if (slice_get kinds at))) (at + 1) ts
+    (kind_if (slice_get kinds at))) (at + 1) ts
 
 -- the tokens of an item
 abbrev pub with_item : Encoding → (shown : List ℕ) → (first : List ℕ → Option Declarer) → Told → List Lexeme

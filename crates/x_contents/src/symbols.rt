@@ -107,7 +107,7 @@ fn write_definition(
     Ok(())
 }
 
-/// Writes the symbol of a part: behind those of whole definitions, or behind those whose parent is yet to come.
+/// Writes the symbol of a part: behind those of whole definitions, or those whose parent is yet to come.
 fn write_part(
     alloc: Global,
     tokens: &[Token],
@@ -207,9 +207,7 @@ fn symbol_of(
         start: first.start,
         end: last.end,
     };
-    Ok(Some(symbol_text(
-        alloc, part.kind, token.text, &range, name, children,
-    )?))
+    Ok(Some(symbol_text(alloc, part.kind, token.text, &range, name, children)?))
 }
 
 /// The text of a symbol of this name, with those that stand in it, and a comma behind it.

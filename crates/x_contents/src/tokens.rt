@@ -16,8 +16,9 @@ ghost use Rattle.x_declared.specs.ItemWalks.{over_items};
 ghost use Rattle.x_frames.specs.ListTexts.{ended};
 ghost use Rattle.x_positions.specs.Positions.{position_of};
 ghost use Rattle.x_contents.specs.Reading.{told_of};
-ghost use Rattle.x_contents.specs.TokenKinds.{kind_alone, kind_declared, kind_of_part, kind_unparsed, kind_used};
-ghost use Rattle.x_contents.specs.TokenKinds.{kinds_in, with_kind, with_parts, with_uses, word_places};
+ghost use Rattle.x_contents.specs.TokenKinds.{kind_alone, kind_declared, kind_of_part, kind_unparsed};
+ghost use Rattle.x_contents.specs.TokenKinds.{kind_used, kinds_in, with_kind, with_parts, with_uses};
+ghost use Rattle.x_contents.specs.TokenKinds.{word_places};
 ghost use Rattle.x_contents.specs.Tokens.{ends_at, kind_if, number_text, numbers_in, tokens_data, with_item};
 ghost use Rattle.x_contents.specs.Tokens.{with_lines, with_part, with_token, with_tokens};
 
@@ -271,11 +272,7 @@ fn place_of(words: &[usize], word: usize) -> Option<usize>
 }
 
 /// Tells what the token at a place is, if there is one.
-fn put_kind_at(
-    kinds: &mut Vec<Option<TokenKind>>,
-    place: Option<usize>,
-    kind: Option<TokenKind>,
-)
+fn put_kind_at(kinds: &mut Vec<Option<TokenKind>>, place: Option<usize>, kind: Option<TokenKind>)
     ensures { kinds.new.items ≡ with_kind kinds.old.items place kind }
 {
     if let Some(place) = place {

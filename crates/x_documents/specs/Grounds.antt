@@ -78,8 +78,8 @@ has_mark text = nat_le 3 (length text)
 abbrev pub unmarked : List ℕ → List ℕ
 unmarked text = if has_mark text then codes "   " ++ drop 3 text else text
 
--- what is compiled of a text that a client has: without a byte order mark, and without the lines of cpp, where
--- these are blanked
+-- what is compiled of a text that a client has: without a byte order mark, and without the lines of cpp,
+-- where these are blanked
 abbrev pub compiled_of : (blanks : Bool) → List ℕ → List ℕ
 compiled_of blanks shown = if blanks then blanked (unmarked shown) else shown
 

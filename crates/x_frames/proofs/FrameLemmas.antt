@@ -81,16 +81,18 @@ whole_message bytes all left left' head h come enough =
     let rest_is : drop (n + m) all ≡ drop m after = sym (drop-drop m n all) in
     let within = h.within in
     let parts : take m after ++ drop m after ≡ drop n bytes ++ come.come = take-append-drop m after ∙ ap (drop n) come.new_is ∙ behind_fields bytes come.come head within in
-    let body_len : length (slice_range all n (n + m)) ≡ m = ap length body_is ∙ length-take-le m after (omega (arith, len, enough)) in
-    (record {
-      fields = h.fields;
-      last = h.last;
-      reads = subst (λ b. ReadsSection b h.fields h.last (slice_range all n (n + m) ++ drop (n + m) all)) (sym come.new_is)
-          (subst (ReadsSection (bytes ++ come.come) h.fields h.last) (sym parts ∙ (λ i. sym body_is i ++ sym rest_is i)) (ReadsSection-append bytes h.fields h.last (drop n bytes) come.come h.reads));
-      length_is = h.body_is ∙ ap Some (sym body_len);
-      few = h.few;
-      short_head = subst (λ k. k ≤ most_head) h.length_is h.short_head;
-    }, body_len)
+    let body_len : length (slice_range all n (n + m)) ≡ m = ap length body_is ∙ length-take-le m after (omega (arith, len, enough)) in (
+      record {
+        fields = h.fields;
+        last = h.last;
+        reads = subst (λ b. ReadsSection b h.fields h.last (slice_range all n (n + m) ++ drop (n + m) all)) (sym come.new_is)
+            (subst (ReadsSection (bytes ++ come.come) h.fields h.last) (sym parts ∙ (λ i. sym body_is i ++ sym rest_is i)) (ReadsSection-append bytes h.fields h.last (drop n bytes) come.come h.reads));
+        length_is = h.body_is ∙ ap Some (sym body_len);
+        few = h.few;
+        short_head = subst (λ k. k ≤ most_head) h.length_is h.short_head;
+      },
+      body_len,
+    )
 
 -- ---- a message that is passed over
 

@@ -1,6 +1,7 @@
 -- Messages behind one another (LSP 3.17, "Base Protocol"): each has header fields, an empty line and a body,
 -- as many bytes as its field Content-Length says.
-use Rattle.std.specs.Prelude.{◌≡◌, ◌⊎◌, ℕ, ◌<◌, ◌≤◌, ◌&&◌, Bool, true, false, List, [], ◌∷◌, ◌++◌, length, map, codes}
+use Rattle.std.specs.Prelude.{◌≡◌, ◌⊎◌, ℕ, ◌<◌, ◌≤◌, ◌&&◌, Bool, true, false}
+use Rattle.std.specs.Prelude.{List, [], ◌∷◌, ◌++◌, length, map, codes}
 use Rattle.std.specs.Prelude.{Option, None, Some, option_and_then, Result, Ok, Err, if◌then◌else◌, IfSome}
 use Rattle.std.specs.Char.{eq_ignore_ascii_case}
 use Rattle.std.specs.Str.Parse.{digits_value}

@@ -17,7 +17,7 @@ pub struct PlainList {
 
 impl PlainList {
     ghost use Rattle.std.specs.Prelude.{◌≡◌, ◌++◌, [], ◌∷◌, false, OnOk};
-    ghost use Rattle.serde_json.specs.Data.{array, number as number_data, unsigned};
+    ghost use Rattle.serde_json.specs.Data.{array};
     ghost use Rattle.serde_json.specs.View.{items_of, view};
     ghost use Rattle.serde_json.specs.Written.{has_float};
     ghost use Rattle.x_frames.specs.Plain.{listed};
@@ -38,13 +38,6 @@ impl PlainList {
     {
         push(&mut self.values, value)?;
         Ok(())
-    }
-
-    /// Adds a number.
-    pub fn push_number(&mut self, number: usize) -> Result<(), NoMemory>
-        ensures { OnOk result (listed self.new ≡ listed self.old ++ number_data (unsigned number) ∷ []) }
-    {
-        self.push(Value::from(number))
     }
 
     /// The list as a value.

@@ -1,5 +1,5 @@
 -- What is said to questions.
-use Rattle.std.proofs.Common.{◌≡◌, ◌++◌, ℕ, Bool, List, Option, None, Some, Result, Ok, Err, true, ap, inl, inr, refl, subst, sym}
+use Rattle.std.proofs.Common.{◌≡◌, ◌∙◌, ◌++◌, ℕ, Bool, List, Option, None, Some, Result, Ok, Err, true, ap, inl, inr, refl, subst, sym}
 use Rattle.std.proofs.Math.Logic.{∥∥₁_map}
 use Rattle.std.specs.Prelude.{IfErr, IfOk, IfSome, if◌then◌else◌, string_bytes}
 use Rattle.std.specs.Global.{Global}
@@ -58,8 +58,8 @@ code_of (Err code) = code
 -- ---- from what is found to what is said
 
 -- the text of an answer with this result
-pub said_so : (id data : Data) (found : List ℕ) (said : Option (List ℕ)) → found ≡ compact_text data → said ≡ Some (answer_text (compact_text id) found) → said ≡ Some (compact_text (answer_data id data))
-said_so id data found said text_is is = is ∙ ap (λ t. Some (answer_text (compact_text id) t)) text_is ∙ ap Some (sym (answer_text_is id data))
+pub said_so : (id told : Data) (found : List ℕ) (said : Option (List ℕ)) → found ≡ compact_text told → said ≡ Some (answer_text (compact_text id) found) → said ≡ Some (compact_text (answer_data id told))
+said_so id told found said text_is is = is ∙ ap (λ t. Some (answer_text (compact_text id) t)) text_is ∙ ap Some (sym (answer_text_is id told))
 
 answered_at : (id : Data) (question : Question) (d : Document) (text : Option (List ℕ)) (params : Option Data) (found : Vec ℕ Global) (said : Option (List ℕ))
     → FindsAt question d text params (Ok found) → said ≡ Some (answer_text (compact_text id) found.items) → IsAnsweredAt id question d text params said
@@ -112,25 +112,24 @@ on_ground d P is told =
 -- what compiling a text gives is what compiling the document's gives
 as_compiled : (d : OpenDocument) (of : List Item → Data) (found : List ℕ) → IsCompiled d.files.items d.blanks d.shown d.compiled
     → Compiles d.compiled.session.known d.compiled.session.text (λ items. found ≡ compact_text (of items))
-    → (data : Data) × (found ≡ compact_text data) × ∥ CompilesOn (view_document d).on d.shown (λ items. data ≡ of items) ∥₁
+    → (told : Data) × (found ≡ compact_text told) × ∥ CompilesOn (view_document d).on d.shown (λ items. told ≡ of items) ∥₁
 as_compiled d of found is told = (of told.1, told.3, on_ground d (λ text items. of told.1 ≡ of items) is (told.0, told.1, told.2, refl))
 
 -- the text that `rpcgen/text` asks for
-text_data : (base : List ℕ) → Wanted → List ℕ → List Item → Data
+abbrev text_data : (base : List ℕ) → Wanted → List ℕ → List Item → Data
 text_data base w text items = string (utf8_lossy (told_text w base text items))
 
 text_if : (d : OpenDocument) (params : Option Data) (wanted : Option Wanted) (found : Vec ℕ Global) → wanted ≡ wanted_in params → IsText found.items → IsCompiled d.files.items d.blanks d.shown d.compiled
     → IfSome wanted (λ w. IfOk {E = ErrorCode} (Ok found) (λ found. Compiles d.compiled.session.known d.compiled.session.text
     (λ items. found.items ≡ compact_text (text_data d.compiled.session.base w d.compiled.session.text items))))
-    → (data : Data) × (found.items ≡ compact_text data) × IfSome wanted (λ w. IsTextOf (view_document d) d.shown w data)
-unfolding text_data
+    → (told : Data) × (found.items ≡ compact_text told) × IfSome wanted (λ w. IsTextOf (view_document d) d.shown w told)
 text_if d params None found same text is told = (text.0, text.1, tt)
 text_if d params (Some w) found same text is told =
     let base = base_of (name_of (string_bytes d.uri)) in
-    let data = text_data base w d.compiled.session.text told.1 in (
-      data,
+    let told_is = text_data base w d.compiled.session.text told.1 in (
+      told_is,
       told.3 ∙ ap (λ b. compact_text (text_data b w d.compiled.session.text told.1)) d.based,
-      on_ground d (λ text items. data ≡ text_data base w text items) is (told.0, told.1, told.2, refl),
+      on_ground d (λ text items. told_is ≡ text_data base w text items) is (told.0, told.1, told.2, refl),
     )
 
 -- what the session of a document is asked for
@@ -146,7 +145,6 @@ pub record AreFoundIn (q : DocumentQuestion) (encoding : Encoding) (shown : List
 -- what is found of a whole document
 document_found : (d : OpenDocument) (q : DocumentQuestion) (params : Option Data) (result : Result (Vec ℕ Global) ErrorCode) → IsCompiled d.files.items d.blanks d.shown d.compiled
     → AreFoundIn q d.client.encoding d.shown params d.compiled result → FindsAt (OfDocument q) (view_document d) (Some d.shown) params result
-unfolding text_data
 document_found d q params (Err code) is found = found.code_is
 document_found d Symbols params (Ok text) is found = as_compiled d (λ items. array (items_of (symbols_in d.client.encoding d.shown items))) text.items is (found.symbols refl)
 document_found d Folds params (Ok text) is found = as_compiled d (λ items. array (items_of (folds_in d.shown (tokens_of items)))) text.items is (found.folds refl)

@@ -48,7 +48,7 @@ abbrev pub AreTokensOf : Document → (shown : List ℕ) → Data → Type 0
 AreTokensOf d shown result =
     ∥ CompilesOn d.on shown (λ items. result ≡ tokens_data (numbers_in d.client.encoding shown items)) ∥₁
 
--- the result of a question about a document whose text is this; of questions about a place nothing is said here
+-- the result of a question about a document whose text is this; of those about a place nothing is said here
 abbrev pub IsResultOf : Question → Document → (shown : List ℕ) → (params : Option Data) → Data → Type 0
 IsResultOf (OfDocument Text) d shown params result = IfSome (wanted_in params)
     (λ wanted. IsTextOf d shown wanted result)
@@ -84,7 +84,7 @@ abbrev pub FindsAt : Question → Document → (text : Option (List ℕ)) → (p
     → Result (Vec ℕ Global) ErrorCode → Type 0
 FindsAt question d None params result = result ≡ Err ContentModified
 FindsAt question d (Some shown) params (Ok found) =
-    (data : Data) × (found.items ≡ compact_text data) × IsResultOf question d shown params data
+    (told : Data) × (found.items ≡ compact_text told) × IsResultOf question d shown params told
 FindsAt question d (Some shown) params (Err code) = is_of_question code ≡ true
 
 abbrev pub FindsOf : Question → Option Document → (params : Option Data) → Result (Vec ℕ Global) ErrorCode

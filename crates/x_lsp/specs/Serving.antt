@@ -127,8 +127,8 @@ stop_by frame.NoMemory count = NoMemory count
 stop_by frame.Bad count = Bad count
 
 -- the next message is answered, over a tap that had `left` and has `left'`
-pub record IsAnswered (reader reader' : FrameReading) (left left' : Option (List ℕ)) (state state' : ServerState)
-    (p : Inked) (now : Stream) (q : Inked) (now' : Stream) : Type 0 where
+pub record IsAnswered (reader reader' : FrameReading) (left left' : Option (List ℕ))
+    (state state' : ServerState) (p : Inked) (now : Stream) (q : Inked) (now' : Stream) : Type 0 where
   pub come : List ℕ
   pub from_tap : Consumes left left' come
   pub body : List ℕ

@@ -101,10 +101,10 @@ impl<'k> Server<'k> {
     }
 
     /// Refuses a message that was too long to be read, which may have been a change of any document.
-    pub fn refuse_long(&mut self) -> Reply
+    pub(crate) fn refuse_long(&mut self) -> Reply
         ensures { IsPassedOver (state_of self.old) (said_of result) (state_of self.new) }
     {
-        let _ = self.documents.lose_all();
+        let _all_lost = self.documents.lose_all();
         refused(self.alloc, &Value::Null, ErrorCode::TooLong)
     }
 

@@ -1,7 +1,7 @@
 use Rattle.std.proofs.Common.{Ok, subst}
 use Rattle.x_frames.specs.Framing.{ReadsFrame}
 use Rattle.x_documents.specs.Replies.{said_of}
-use Rattle.x_lsp.specs.States.{state_of}
+use Rattle.x_lsp.specs.States.{IsTaken, state_of}
 use Rattle.x_lsp.proofs.ServingLemmas.{long_answered, message_answered}
 use Rattle.x_lsp.proofs.serving.answer_next.Goals as goal
 
@@ -12,12 +12,13 @@ returns-in-Ok-Message-clause-answers g c =
     let reads = subst (λ f. ReadsFrame c.args.reader.now c.next.new.self left left' (Ok f)) c.in-Ok-Message.field-0-is c.in-Ok-Message.ensures.frame in
     message_answered c.args.reader.now c.next.new.self left left' (state_of c.args.server.now) (state_of c.reply-reply.new.self) c.args.pen.now c.add_reply.new.pen
     (g.O.Sink.state c.args.out.now) (g.O.Sink.state c.add_reply.new.sink) (said_of c.reply-reply.result) reads
-    (record { is_said = c.reply-reply.ensures.said; makes = c.reply-reply.ensures.makes }) c.add_reply.ensures
+    (subst (λ b. IsTaken (state_of c.args.server.now) b (said_of c.reply-reply.result) (state_of c.reply-reply.new.self)) c.body.ensures (record { is_said = c.reply-reply.ensures.said; makes = c.reply-reply.ensures.makes }))
+    c.add_reply.ensures
 
 pub returns-in-Ok-Long-clause-answers : goal.returns-in-Ok-Long-clause-answers
 returns-in-Ok-Long-clause-answers g c =
     let left = (g.I.Tap.state c.args.input.now).bytes in
     let left' = (g.I.Tap.state c.next.new.tap).bytes in
     let reads = subst (λ f. ReadsFrame c.args.reader.now c.next.new.self left left' (Ok f)) c.in-Ok-Long.field-0-is c.in-Ok-Long.ensures.frame in
-    long_answered c.args.reader.now c.next.new.self left left' (state_of c.args.server.now) (state_of c.refuse_long-reply.new.self) c.args.pen.now c.add_reply.new.pen
-    (g.O.Sink.state c.args.out.now) (g.O.Sink.state c.add_reply.new.sink) (said_of c.refuse_long-reply.result) reads c.refuse_long-reply.ensures c.add_reply.ensures
+    long_answered c.args.reader.now c.next.new.self left left' (state_of c.args.server.now) (state_of c.refuse_long-reply.new.self) c.args.pen.now c.add_reply-in-Ok-Long.new.pen
+    (g.O.Sink.state c.args.out.now) (g.O.Sink.state c.add_reply-in-Ok-Long.new.sink) (said_of c.refuse_long-reply.result) reads c.refuse_long-reply.ensures c.add_reply-in-Ok-Long.ensures
