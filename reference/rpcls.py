@@ -385,13 +385,13 @@ def meaning_told(compilation, name, first):
 Part = collections.namedtuple("Part", "first name last told number")
 
 
-def parts_of(item, definition):
-    """The enumerators, the fields, the versions and the procedures of a definition."""
+def parts_in(item, types):
+    """The enumerators and the fields of types that an item has."""
     words = [place for place, token in enumerate(item) if token.kind not in rpclang.PASSED_OVER]
     behind = lambda place: next(word for word in words if word >= place and item[word].text == b";")
     front = lambda place: words[words.index(place) - 1]
     field = lambda first, declared, last, told: Part(first, declared.name.place, last, told, None)
-    for part in rpclang.parts_of(definition):
+    for part in types:
         body, around = part.body, part.name.decode()
         pairs = []
         if isinstance(body, rpclang.EnumBody):
@@ -410,7 +410,15 @@ def parts_of(item, definition):
         for first, declared in pairs:
             if declared.name is not None:
                 yield field(first, declared, behind(declared.name.place), f"field of {word} {around}")
+
+
+def parts_of(item, definition):
+    """The enumerators, the fields, the versions and the procedures of a definition."""
+    words = [place for place, token in enumerate(item) if token.kind not in rpclang.PASSED_OVER]
+    behind = lambda place: next(word for word in words if word >= place and item[word].text == b";")
+    yield from parts_in(item, rpclang.parts_of(definition))
     for version in definition.versions if isinstance(definition, rpclang.Program) else []:
+        front = lambda place: words[words.index(place) - 1]
         told = f"version of program {definition.name.text.decode()}"
         yield Part(front(version.name.place), version.name.place, behind(version.number.place), told, version.number)
         for it in version.procedures:
@@ -469,7 +477,11 @@ def parts_and_whole(item, definition):
         return []
     words = [place for place, token in enumerate(item) if token.kind not in rpclang.PASSED_OVER]
     whole = Part(words[0], own.place, words[-1], shape_of(definition), None)
-    return sorted([whole, *parts_of(item, definition)], key=lambda part: (part.first, -part.last))
+    # Inline types that are written as results, which are a fault.
+    results = [part for version in getattr(definition, "versions", []) for it in version.procedures
+               if rpclang.is_inline(it.result)
+               for part in [*rpclang.lifted_parts(b"", it.result.body), rpclang.Part(b"", it.name, it.result.body, True)]]
+    return sorted([whole, *parts_of(item, definition), *parts_in(item, results)], key=lambda part: (part.first, -part.last))
 
 
 def symbols(lines, compilation):
