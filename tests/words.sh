@@ -216,8 +216,20 @@ bodies() { tr -d '\r' | sed -e 's/Content-Length: [0-9]*$//' -e '/^$/d' | sed '$
 
 # serve TEXT..: what rpcls says to these messages, one a line; with its status where that is not 0.
 serve() {
-    framed "$@" | rpcls ${server_options-} | bodies
+    framed "$@" | {
+        if [ -n "${come_at_once-}" ]; then
+            cat >messages
+            exec <messages
+        fi
+        rpcls ${server_options-}
+    } | bodies
     return "${PIPESTATUS[1]}"
+}
+
+# at_once COMMAND..: where all messages have come before the first is read.
+at_once() {
+    local come_at_once=1
+    "$@"
 }
 
 # under OPTIONS COMMAND..: of an rpcls with these options.
@@ -299,6 +311,12 @@ asks() {
 asks_of() {
     printf '{"jsonrpc":"2.0","id":%s,"method":"textDocument/%s","params":{"textDocument":{"uri":"file:///t.x"}}}' "$@"
 }
+
+# cancels ID: the notification that cancels a request.
+cancels() { printf '{"jsonrpc":"2.0","method":"$/cancelRequest","params":{"id":%s}}' "$1"; }
+
+# of_u: a message about t.x, as one about u.x.
+of_u() { sed 's/t\.x/u.x/'; }
 
 # refers ID LINE CHARACTER: a question for where a name is used and declared.
 refers() { asks "$1" references "$2" "$3" ',"context":{"includeDeclaration":true}'; }

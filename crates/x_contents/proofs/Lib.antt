@@ -1,3 +1,4 @@
 mod FoldLemmas
+mod StringTextLemmas
 mod SymbolLemmas
 mod TokenLemmas

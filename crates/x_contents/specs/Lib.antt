@@ -1,6 +1,7 @@
 pub mod DocumentTexts
 pub mod Folds
 pub mod Reading
+pub mod StringTexts
 pub mod Symbols
 pub mod SymbolTexts
 pub mod TokenKinds

@@ -12,8 +12,8 @@ ghost use Rattle.x_session.specs.FaultLines.{fault_line};
 ghost use Rattle.x_session.specs.Session.{Compiles};
 ghost use Rattle.x_contents.specs.DocumentTexts.{told_text};
 
+use crate::string_text::string_text;
 use crate::wanted::Wanted;
-use serde_json::Value;
 use std::alloc::Global;
 use x_lookups::TextSink;
 use x_session::{Fault, Session, Which, add_place};
@@ -28,14 +28,6 @@ pub(crate) fn text(alloc: Global, session: &Session, wanted: Wanted) -> Result<V
 {
     let bytes = told_text(alloc, session, wanted)?;
     string_text(alloc, &bytes)
-}
-
-/// The text of bytes as a string of JSON.
-pub(crate) fn string_text(alloc: Global, bytes: &[u8]) -> Result<Vec<u8>, NoMemory>
-    ensures { IfOk result (λ text. text.items ≡ compact_text (string (utf8_lossy bytes.now))) }
-{
-    let string = Value::String(String::from_utf8_lossy(alloc, bytes)?);
-    Ok(string.to_vec(alloc)?)
 }
 
 /// What is told of a text.

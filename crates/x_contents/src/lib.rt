@@ -5,6 +5,7 @@
 mod answers;
 mod folds;
 mod generated;
+mod string_text;
 mod symbols;
 mod tokens;
 mod wanted;

@@ -15,7 +15,7 @@ ghost use Rattle.x_contents.specs.Symbols.{token_range, with_definition, with_pa
 ghost use Rattle.x_contents.specs.SymbolTexts.{no_text, position_text, range_text, symbol_text, text_by};
 ghost use Rattle.x_contents.specs.SymbolTexts.{text_of, with_text};
 
-use crate::generated::string_text;
+use crate::string_text::write_string;
 use std::alloc::Global;
 use x_frames::{end_list, write_number};
 use x_item::{Definition, next_item};
@@ -229,7 +229,7 @@ fn symbol_text(
     text.extend_from_slice(b",\"kind\":")?;
     write_number(&mut text, symbol_kind(kind))?;
     text.extend_from_slice(b",\"name\":")?;
-    text.extend_from_slice(&string_text(alloc, name)?)?;
+    write_string(alloc, name, &mut text)?;
     text.extend_from_slice(b",\"range\":")?;
     write_range(&mut text, range)?;
     text.extend_from_slice(b",\"selectionRange\":")?;

@@ -5,4 +5,5 @@ pub mod HintLemmas
 pub mod ListLemmas
 pub mod NotingLemmas
 pub mod SaidLemmas
+pub mod TellingLemmas
 pub mod WarnedLemmas

@@ -6,4 +6,5 @@ pub mod Grounds
 pub mod Noting
 pub mod Publishing
 pub mod Replies
+pub mod Telling
 pub mod Views

@@ -6,14 +6,19 @@ ghost use Rattle.std.specs.Prelude.{length, string_bytes, map, OnOk};
 ghost use Rattle.serde_json.specs.Data.{Data};
 ghost use Rattle.serde_json.specs.View.{view};
 ghost use Rattle.serde_json.specs.Written.{compact_text};
+ghost use Rattle.x_lex.specs.declared.kind.Kind.{Kind};
+ghost use Rattle.x_compile.specs.Compile.{IsCompilation, Item};
 ghost use Rattle.x_compile.specs.Faults.{fault_text};
+ghost use Rattle.x_compile.specs.declared.fault.FaultPlace.{FaultPlace};
 ghost use Rattle.x_session.specs.Session.{Compiles};
+ghost use Rattle.x_explain.specs.Found.{AreFound, IsEndOfToken};
 ghost use Rattle.x_declared.specs.Foreign.{view_all};
 ghost use Rattle.x_directives.specs.Conditionals.{conditionals};
-ghost use Rattle.x_published.specs.Diagnostics.{AreForeignHints, closing_data};
+ghost use Rattle.x_published.specs.Diagnostics.{AreDiagnostics, AreForeignHints, IsDiagnostic, closing_data};
 ghost use Rattle.x_published.specs.Diagnostics.{diagnostic_data, fault_number, hint_data};
 ghost use Rattle.x_published.specs.Published.{data_of};
 ghost use Rattle.x_documents.specs.Publishing.{AreShown, IsPublishedOf};
+ghost use Rattle.x_documents.specs.Telling.{AreOfSame, AreOthersFor, IsMarkerFor, place_of_found};
 ghost use Rattle.x_told.specs.Telling.{told_of};
 ghost use Rattle.x_positions.specs.Waymarks.{AreWaymarks};
 
@@ -22,7 +27,7 @@ use serde_json::json;
 use std::alloc::{AllocError, Global};
 use x_declared::ForeignName;
 use x_directives::conditionals;
-use x_explain::token_end;
+use x_explain::{FoundFault, token_end};
 use x_frames::note;
 use x_positions::{Marker, Waymarks};
 use x_published::{
@@ -188,27 +193,85 @@ fn diagnostics<'d>(
         AreShown client uri.now hints.now.most shown.now session.now.text items
         (told_of hints.now.blanks shown.now items) (map data_of list.items))) }
 {
-    let text = session.bytes();
     let found = chosen_faults(alloc, hints.most, hints.blanks, shown, session)?;
-    let mut list = Vec::with_capacity(alloc, found.list.len())?;
     let mut others = OtherPlaces::of(client.shows_related, shown, marks, session);
-    for fault in &found.list {
-        let start = fault.start;
-        let range = marks.range(shown, start, fault.end);
-        marker.mark_place(start, range.start)?;
-        let word = word_at(text, start, fault.end);
-        let other = others.range(alloc, fault.code, word, start)?;
-        let related = place_of(uri, other, "first declared here");
-        others.make(alloc, fault.code)?;
-        let known = others.known(fault.code, start, word);
-        let message = messages.next(alloc, fault.code, &known)?;
-        list.push(Diagnostic {
-            severity: severity_of(fault.code),
-            message: Message::OfFault(message),
-            range,
-            related,
-        })?;
-    }
+    let mut list = diagnostics_of(
+        alloc,
+        client,
+        uri,
+        &found.list,
+        &mut others,
+        marker,
+        messages,
+    )?;
     add_some(unshown(alloc, found.left)?, &mut list)?;
     Ok(list)
+}
+
+/// The diagnostics of faults that stand in a text, whose places are marked.
+fn diagnostics_of<'d>(
+    alloc: Global,
+    client: Client,
+    uri: &'d str,
+    faults: &[FoundFault],
+    others: &mut OtherPlaces,
+    marker: &mut Marker,
+    messages: &mut FaultMessages,
+) -> Result<Vec<Diagnostic<'d>>, NoMemory>
+    requires others { AreOthersFor client others.old }
+    requires marker { IsMarkerFor client others.old.text.now marker.old }
+    requires found { (places : List FaultPlace)
+        × AreFound others.old.session.now.text places faults.now }
+    ensures marker { IsMarkerFor client others.old.text.now marker.new }
+    ensures diagnostics { IfOk result (λ list.
+        (places : List FaultPlace) (tokens : List (Kind × ℕ)) (items : List Item)
+        → AreFound others.old.session.now.text places faults.now
+        → IsCompilation others.old.session.now.known others.old.session.now.text tokens items
+        → AreDiagnostics client uri.now others.old.text.now others.old.session.now.text items places
+        (map data_of list.items)) }
+{
+    let mut list = Vec::with_capacity(alloc, faults.len())?;
+    for fault in faults {
+        let diagnostic = diagnostic(alloc, client, uri, fault, others, marker, messages)?;
+        list.push(diagnostic)?;
+    }
+    Ok(list)
+}
+
+/// The diagnostic of a fault that stands in a text, whose place is marked.
+fn diagnostic<'d>(
+    alloc: Global,
+    client: Client,
+    uri: &'d str,
+    fault: &FoundFault,
+    others: &mut OtherPlaces,
+    marker: &mut Marker,
+    messages: &mut FaultMessages,
+) -> Result<Diagnostic<'d>, NoMemory>
+    requires others { AreOthersFor client others.old }
+    requires marker { IsMarkerFor client others.old.text.now marker.old }
+    requires end { IsEndOfToken others.old.session.now.text fault.now.start fault.now.end }
+    ensures others { AreOthersFor client others.new }
+    ensures same { AreOfSame others.old others.new }
+    ensures marker { IsMarkerFor client others.old.text.now marker.new }
+    ensures diagnostic { IfOk result (λ diagnostic. (tokens : List (Kind × ℕ)) (items : List Item)
+        → IsCompilation others.old.session.now.known others.old.session.now.text tokens items
+        → IsDiagnostic client uri.now others.old.text.now others.old.session.now.text items
+        (place_of_found fault.now) (data_of diagnostic)) }
+{
+    let code = fault.code;
+    let start = fault.start;
+    let range = others.marks.range(others.text, start, fault.end);
+    marker.mark_place(start, range.start)?;
+    let session = others.session;
+    let word = word_at(session.bytes(), start, fault.end);
+    let other = others.range(alloc, code, word, start)?;
+    others.make(alloc, code)?;
+    let message = messages.next(alloc, code, &others.known(code, start, word))?;
+    Ok(Diagnostic {
+        severity: severity_of(code),
+        message: Message::OfFault(message),
+        range,
+        related: place_of(uri, other, "first declared here"),
+    })
 }

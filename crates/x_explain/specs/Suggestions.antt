@@ -1,8 +1,8 @@
 -- What an undeclared word may have been meant as.
 use Rattle.std.specs.Prelude.{◌≡◌, ℕ, ◌-◌, ◌*◌, Bool, true, false, ◌&&◌, ◌||◌, ◌==◌, nat_le, nat_eq, List}
 use Rattle.std.specs.Prelude.{[], ◌∷◌, codes, length, map, take, slice_range, Option, None, Some}
-use Rattle.std.specs.Prelude.{option_and_then, option_map, if◌then◌else◌}
-use Rattle.std.specs.List.{filter, flat_map}
+use Rattle.std.specs.Prelude.{option_and_then, option_map, if◌then◌else◌, not}
+use Rattle.std.specs.List.{filter, flat_map, list_any}
 use Rattle.std.specs.Map.{lookup}
 use Rattle.std.specs.Option.{option_or}
 use Rattle.std.specs.Str.{bytes_eq}
@@ -75,9 +75,18 @@ abbrev pub is_about_as_long : (word name : List ℕ) → Bool
 is_about_as_long word name =
     is_small word (length word - length name) && is_small word (length name - length word)
 
+-- how many bytes of a word are not in a name
+abbrev pub strange : (word name : List ℕ) → ℕ
+strange word name = length (filter (λ b. not (list_any (λ y. y == b) name)) word)
+
+-- of both, at most a third of the word's length is not in the other: a step takes away one such byte at most,
+-- so this holds of each near name
+abbrev pub is_alike : (word name : List ℕ) → Bool
+is_alike word name = is_small word (strange word name) && is_small word (strange name word)
+
 -- a name is near whose distance is at most a third of the word's length
 abbrev pub is_near : (word name : List ℕ) → Bool
-is_near word name = is_short word && is_short name && is_about_as_long word name
+is_near word name = is_short word && is_short name && is_about_as_long word name && is_alike word name
     && is_small word (distance word name)
 
 -- it is no farther than the nearest of those after it

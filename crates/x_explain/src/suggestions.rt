@@ -10,7 +10,8 @@ ghost use Rattle.x_compile.specs.Compile.{definitions_of, places_of};
 ghost use Rattle.x_session.specs.Session.{Compiles};
 ghost use Rattle.x_explain.specs.Found.{AreFound};
 ghost use Rattle.x_explain.specs.Suggestions.{AreSuggested, compared, distance, is_bool, is_hyper, is_int};
-ghost use Rattle.x_explain.specs.Suggestions.{is_about_as_long, is_near, is_nearer, is_small, is_unknown};
+ghost use Rattle.x_explain.specs.Suggestions.{is_about_as_long, is_alike, is_near, is_nearer, is_small};
+ghost use Rattle.x_explain.specs.Suggestions.{is_unknown, strange};
 ghost use Rattle.x_explain.specs.Suggestions.{is_unsigned_hyper};
 ghost use Rattle.x_explain.specs.Suggestions.{is_unsigned_int, is_unsigned_long, is_unsigned_of_width};
 ghost use Rattle.x_explain.specs.Suggestions.{nearest, sought, suggested};
@@ -338,6 +339,10 @@ fn is_near(alloc: Global, word: &[u8], name: &[u8]) -> Result<bool, NoMemory>
     if word.len() > LONGEST || name.len() > LONGEST || !is_about_as_long(word, name) {
         return Ok(false);
     }
+    // Most names end here, without memory.
+    if !is_alike(word, name) {
+        return Ok(false);
+    }
     Ok(is_small(word, distance(alloc, word, name)?))
 }
 
@@ -347,6 +352,27 @@ fn is_about_as_long(word: &[u8], name: &[u8]) -> bool
 {
     is_small(word, word.len().saturating_sub(name.len()))
         && is_small(word, name.len().saturating_sub(word.len()))
+}
+
+/// Whether of a word and a name, at most a third of the word's length is not in the other, as of each near
+/// name.
+fn is_alike(word: &[u8], name: &[u8]) -> bool
+    ensures { result ≡ is_alike word.now name.now }
+{
+    is_small(word, strange(word, name)) && is_small(word, strange(name, word))
+}
+
+/// How many bytes of a word are not in a name.
+fn strange(word: &[u8], name: &[u8]) -> usize
+    ensures { result ≡ strange word.now name.now }
+{
+    let mut count = 0;
+    for byte in word {
+        if !name.contains(byte) {
+            count += 1;
+        }
+    }
+    count
 }
 
 /// Whether these are at most a third as many as the bytes of a word.

@@ -3,18 +3,21 @@ use Rattle.std.specs.Prelude.{◌≡◌, ◌⊎◌, ℕ, ℤ, negsuc, List, [], 
 use Rattle.std.specs.Prelude.{Option, None, Some, true}
 use Rattle.std.specs.Prelude.{IfSome, IsUtf8, MatchResult}
 use Rattle.serde_json.specs.Data.{Data, null, number, string, object, Members, member, no_members, unsigned}
-use Rattle.serde_json.specs.Find.{of_integer}
+use Rattle.serde_json.specs.Find.{get, of_integer}
 use Rattle.serde_json.specs.Read.{read}
 use Rattle.serde_json.specs.Written.{compact_text}
 use Rattle.x_frames.specs.declared.answers.ErrorCode.{ErrorCode}
 use Rattle.x_frames.specs.declared.answers.ErrorCode.TheVariants.{ParseError, InvalidRequest, MethodNotFound}
 use Rattle.x_frames.specs.declared.answers.ErrorCode.TheVariants.{InvalidParams, InternalError, RequestFailed}
 use Rattle.x_frames.specs.declared.answers.ErrorCode.TheVariants.{NotInitialized, ContentModified}
+use Rattle.x_frames.specs.declared.answers.ErrorCode.TheVariants.{RequestCancelled}
 use Rattle.x_frames.specs.declared.answers.ErrorCode.TheVariants.{NameUnparsed, NameLifted, TooLong}
 use Rattle.x_frames.specs.declared.life.Life.{Life}
 use Rattle.x_frames.specs.declared.method.Method.{Method}
 use Rattle.x_frames.specs.Lives.{admitted, is_of_request, life_behind, life_noted, method_named}
+use Rattle.x_frames.specs.Halves.{mended}
 use Rattle.x_frames.specs.Messages.{Asked, asked_by, request, notification, response, invalid}
+use Rattle.x_frames.specs.Notes.{Noted, misread_by}
 
 -- the number of an error
 abbrev pub error_number : ErrorCode → ℤ
@@ -28,6 +31,7 @@ error_number RequestFailed = negsuc 32802
 error_number (NameUnparsed line) = negsuc 32802
 error_number NameLifted = negsuc 32802
 error_number ContentModified = negsuc 32800
+error_number RequestCancelled = negsuc 32799
 error_number NotInitialized = negsuc 32001
 
 -- the name of an error
@@ -42,6 +46,7 @@ error_name RequestFailed = codes "the new name is none, or is declared"
 error_name (NameUnparsed line) = codes "the name stands in a definition that does not parse"
 error_name NameLifted = codes "an inline type has that name too"
 error_name ContentModified = codes "the document is out of step"
+error_name RequestCancelled = codes "the request is cancelled"
 error_name NotInitialized = codes "the server is not initialized"
 
 -- what is said of an error: its name, and the line that it tells
@@ -126,13 +131,18 @@ IsSaidTo life (notification name) said life' = IsToNotification said × (life' �
 IsSaidTo life response said life' = (said ≡ None) × (life' ≡ life)
 IsSaidTo life invalid said life' = IsRefused null InvalidRequest said × (life' ≡ life)
 
--- What is said to a body, and the life behind it: to the message that it is, or that it is no JSON; or there
--- was no memory to read it.
+-- What is said to a body, and the life behind it: to the message that it is, or that it is no JSON; a note,
+-- where it is a notification about a document but for halves of pairs of surrogates; or there was no memory
+-- to read it.
 pub data IsSaid (life : Life) (body : List ℕ) (said : Option (List ℕ)) (life' : Life) : Type 0 where
   to_message : (message : Data) → read body ≡ Some message → IsSaidTo life (asked_by message) said life'
       → IsSaid life body said life'
   to_no_json : (IsUtf8 body → read body ≡ None) → IsRefused null ParseError said → life' ≡ life
       → IsSaid life body said life'
+  to_misread : (message : Data) (noted : Noted) → (IsUtf8 body → read body ≡ None)
+      → read (mended body) ≡ Some message
+      → misread_by (asked_by message) (get (codes "params") message) ≡ Some noted
+      → IsToNotification said → life' ≡ life → IsSaid life body said life'
   no_memory : (text : List ℕ) → said ≡ Some text → IsRefusal null InternalError text → life' ≡ life
       → IsSaid life body said life'
 

@@ -1,6 +1,8 @@
 pub mod Answers
+pub mod Cancelling
 pub mod FrameSteps
 pub mod Framing
+pub mod Halves
 pub mod KeptSaid
 pub mod ListTexts
 pub mod Lives

@@ -6,6 +6,7 @@ use Rattle.x_frames.specs.declared.answers.ErrorCode.TheVariants.{InvalidRequest
 use Rattle.x_frames.specs.declared.answers.ErrorCode.TheVariants.{InvalidParams, InternalError, ParseError}
 use Rattle.x_frames.specs.declared.answers.ErrorCode.TheVariants.{NotInitialized, RequestFailed}
 use Rattle.x_frames.specs.declared.answers.ErrorCode.TheVariants.{ContentModified, NameUnparsed, NameLifted}
+use Rattle.x_frames.specs.declared.answers.ErrorCode.TheVariants.{RequestCancelled}
 use Rattle.x_frames.specs.declared.life.Life.{Life}
 use Rattle.x_frames.specs.declared.life.Life.TheVariants.{Fresh, Running, ShutDown, Ended}
 use Rattle.x_frames.specs.declared.method.Method.{Method}
@@ -105,6 +106,7 @@ is_of_request RequestFailed = true
 is_of_request (NameUnparsed line) = true
 is_of_request NameLifted = true
 is_of_request ContentModified = true
+is_of_request RequestCancelled = false
 is_of_request NotInitialized = false
 
 -- an error of a question about a document that is in step

@@ -1,7 +1,10 @@
 -- What notifications ask for of documents (LSP 3.17, "Text Document Synchronization").
-use Rattle.std.specs.Prelude.{ℕ, ℤ, List, Option, None, Some, bytes_eq, codes, if◌then◌else◌, option_map}
+use Rattle.std.specs.Prelude.{ℕ, ℤ, ◌==◌, List, Option, None, Some, bytes_eq, codes, if◌then◌else◌}
+use Rattle.std.specs.Prelude.{option_map}
+use Rattle.std.specs.List.{list_any}
 use Rattle.serde_json.specs.Data.{Data, Items}
 use Rattle.serde_json.specs.View.{items_view}
+use Rattle.x_frames.specs.Messages.{Asked, notification}
 use Rattle.x_frames.specs.declared.notes.DocumentNote.{DocumentNote}
 use Rattle.x_frames.specs.declared.notes.DocumentNote.TheVariants as note
 use Rattle.x_frames.specs.declared.notes.NoteKind.{NoteKind}
@@ -48,6 +51,20 @@ noted_if (Some kind) params = noted_as kind (uri_in params) params
 -- what a notification of this name asks for
 abbrev pub noted_by : (name : List ℕ) → (params : Option Data) → Noted
 noted_by name params = noted_if (note_kind_named name) params
+
+-- a URI without a question mark, which may stand for half of a pair of surrogates
+abbrev pub whole_uri : Option (List ℕ) → Option (List ℕ)
+whole_uri None = None
+whole_uri (Some uri) = if list_any (λ b. b == 63) uri then None else Some uri
+
+-- what a notification asks for that is misread, as it had such halves: it is not understood
+abbrev pub misread_as : Option NoteKind → (params : Option Data) → Option Noted
+misread_as None params = None
+misread_as (Some kind) params = Some (wrong kind (whole_uri (uri_in params)))
+
+abbrev pub misread_by : Asked → (params : Option Data) → Option Noted
+misread_by (notification name) params = misread_as (note_kind_named name) params
+misread_by asked params = None
 
 -- what the program says that it asks for
 abbrev pub noted_of : DocumentNote → Noted

@@ -35,6 +35,8 @@ pub enum ErrorCode {
     NameLifted,
     /// It is about a text that is not the client's.
     ContentModified,
+    /// A message that came behind it cancels it.
+    RequestCancelled,
     /// No request came before that initializes the server.
     NotInitialized,
 }
@@ -65,6 +67,7 @@ impl ErrorCode {
             ErrorCode::NameUnparsed { .. } => -32803,
             ErrorCode::NameLifted => -32803,
             ErrorCode::ContentModified => -32801,
+            ErrorCode::RequestCancelled => -32800,
             ErrorCode::NotInitialized => -32002,
         }
     }
@@ -83,6 +86,7 @@ impl ErrorCode {
             ErrorCode::NameUnparsed { .. } => "the name stands in a definition that does not parse",
             ErrorCode::NameLifted => "an inline type has that name too",
             ErrorCode::ContentModified => "the document is out of step",
+            ErrorCode::RequestCancelled => "the request is cancelled",
             ErrorCode::NotInitialized => "the server is not initialized",
         }
     }

@@ -89,6 +89,13 @@ impl MessageReader {
         &self.buffer[self.start..self.end]
     }
 
+    /// The bytes that came behind that message, as far as they were read.
+    pub fn unread(&self) -> &[u8]
+        ensures { result.now ≡ self.now.unread }
+    {
+        &self.buffer[self.end..]
+    }
+
     /// Finds the next message. It takes no memory for a body that is too long.
     ///
     /// # Errors

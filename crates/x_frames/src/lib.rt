@@ -3,9 +3,11 @@
 #![tactic(auto)]
 
 mod answers;
+mod cancelling;
 mod capabilities;
 mod changes;
 mod framing;
+mod halves;
 mod head;
 mod life;
 mod list_text;
@@ -17,14 +19,16 @@ mod plain_list;
 mod plain_object;
 
 pub use answers::{ErrorCode, answer, note, refusal, result_text, shown_text};
+pub use cancelling::is_cancelled;
 pub use capabilities::capabilities_of;
 pub use changes::TextChange;
 pub use framing::{FrameFault, FrameFound, MOST_BODY, MOST_HEAD, MessageReader};
+pub use halves::mended_message;
 pub use head::number;
 pub use life::Life;
 pub use list_text::{end_list, write_number};
 pub use messages::{Incoming, classify};
 pub use method::{DocumentQuestion, Method, PositionQuestion, Question};
-pub use notes::{DocumentNote, NoteKind, document_note};
+pub use notes::{DocumentNote, NoteKind, document_note, misread_note};
 pub use params::{member, position_asked, text_changes, uri_in};
 pub use plain_list::PlainList;

@@ -1,10 +1,15 @@
 //! What notifications ask for of documents.
 
-ghost use Rattle.std.specs.Prelude.{◌≡◌, option_map};
+ghost use Rattle.std.specs.List.{list_any};
+ghost use Rattle.std.specs.Prelude.{◌≡◌, ◌==◌, codes, option_map};
+ghost use Rattle.serde_json.specs.Find.{get};
 ghost use Rattle.serde_json.specs.View.{items_view, view};
-ghost use Rattle.x_frames.specs.Notes.{changing, note_kind_named, noted_as, noted_by, noted_of, opening};
+ghost use Rattle.x_frames.specs.Messages.{asked_by};
+ghost use Rattle.x_frames.specs.Notes.{changing, misread_as, misread_by, note_kind_named, noted_as, noted_by};
+ghost use Rattle.x_frames.specs.Notes.{noted_of, opening, whole_uri};
 ghost use Rattle.x_frames.specs.Params.{uri_in};
 
+use crate::messages::{Incoming, classify};
 use crate::params::{changed_version_in, changes_in, text_in, uri_in, version_in};
 use serde_json::Value;
 
@@ -72,6 +77,48 @@ pub fn document_note<'m>(name: &str, params: Option<&'m Value>) -> DocumentNote<
         Some(kind) => note_of_kind(kind, params),
         None => DocumentNote::Other,
     }
+}
+
+/// What a notification about a document asks for that is misread, as it had halves of pairs of surrogates: it
+/// is not understood, of the document that it names, unless that name may have had a half.
+pub fn misread_note(message: &Value) -> Option<DocumentNote<'_>>
+    ensures { option_map noted_of result
+        ≡ misread_by (asked_by (view message.now)) (get (codes "params") (view message.now)) }
+{
+    match classify(message) {
+        Incoming::Notification { method } => misread_of(method, message.get("params")),
+        _ => None,
+    }
+}
+
+/// The same of a notification of this name.
+fn misread_of<'m>(name: &str, params: Option<&'m Value>) -> Option<DocumentNote<'m>>
+    ensures { option_map noted_of result
+        ≡ misread_as (note_kind_named name.now) (option_map (λ p. view p.now) params.entry) }
+{
+    match NoteKind::named(name) {
+        Some(kind) => Some(DocumentNote::Wrong {
+            kind,
+            uri: whole_uri(uri_in(params)),
+        }),
+        None => None,
+    }
+}
+
+/// A URI without a question mark, which may stand for a half.
+fn whole_uri(uri: Option<&str>) -> Option<&str>
+    ensures { option_map (λ u. u.now) result ≡ whole_uri (option_map (λ u. u.now) uri.entry) }
+{
+    match uri {
+        Some(uri) if !has_question_mark(uri.as_bytes()) => Some(uri),
+        _ => None,
+    }
+}
+
+fn has_question_mark(bytes: &[u8]) -> bool
+    ensures { result ≡ list_any (λ b. b == 63) bytes.now }
+{
+    bytes.contains(&b'?')
 }
 
 /// What a notification about a document asks for.

@@ -42,6 +42,7 @@ pub of_request : (code : ErrorCode) → is_of_question code ≡ true → is_of_r
 of_request codes.ParseError is = is
 of_request codes.InvalidRequest is = is
 of_request codes.TooLong is = is
+of_request codes.RequestCancelled is = is
 of_request codes.MethodNotFound is = is
 of_request codes.InvalidParams is = is
 of_request codes.InternalError is = is

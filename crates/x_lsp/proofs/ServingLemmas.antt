@@ -4,12 +4,12 @@ use Rattle.std.specs.Prelude.{IfSome, MatchBool, nat_lt}
 use Rattle.std.specs.Io.KnownBytes.{Consumes, IsAtEnd}
 use Rattle.std.proofs.KnownBytes.{Appends-nil}
 use Rattle.std.proofs.lemmas.Bool.{ltb-false, ltb-true}
-use Rattle.httparse.specs.Grammar.{ReadsSection}
-use Rattle.httparse.proofs.GrammarLemmas.{ReadsSection-append}
 use Rattle.x_streams.specs.Streams.{Stream}
 use Rattle.x_streams.specs.Writing.{Adds, Inked, Writes, counted}
 use Rattle.x_streams.proofs.Pens.{all_written, counted_all, front_written, writes_none}
 use Rattle.x_frames.specs.Answers.{framed_if}
+use Rattle.x_frames.specs.Messages.{Asked, asked_by, request, notification, response, invalid}
+use Rattle.x_frames.proofs.CancelLemmas.{cancelled_more, framed_more}
 use Rattle.x_frames.specs.Framing.{FrameReading, IsFramed, IsUnframed, ReadsFrame, most_body}
 use Rattle.x_frames.specs.Lives.{end_of}
 use Rattle.x_lsp.specs.Serving.{AreServed, Exchange, HasFailed, HasServed, HasStopped, IsAnswered, Serves, stop_by, written_of}
@@ -17,18 +17,45 @@ use Rattle.x_frames.specs.declared.framing.FrameFault.{FrameFault}
 use Rattle.x_frames.specs.declared.framing.FrameFault.TheVariants as frame
 use Rattle.x_frames.specs.declared.framing.FrameFound.TheVariants.{Message, Long, End}
 use Rattle.x_documents.specs.Grounds.{Ground}
-use Rattle.x_lsp.specs.States.{IsPassedOver, IsServed, IsTaken, ServerState, fresh}
+use Rattle.x_lsp.specs.States.{IsPassedOver, IsRefusedAs, IsServed, IsTakenBefore, ServerState, fresh}
 use Rattle.x_lsp.specs.declared.serving.ServeFault.TheVariants.{NoMemory, Write}
 
 -- ---- one message
 
-served_as : (long : Bool) (s s' : ServerState) (body : List ℕ) (said : Option (List ℕ)) → (long ≡ true → IsPassedOver s said s') → (long ≡ false → IsTaken s body said s') → MatchBool long (IsPassedOver s said s') (IsTaken s body said s')
-served_as true s s' body said passed taken = passed refl
-served_as false s s' body said passed taken = taken refl
+served_as : (long : Bool) (s s' : ServerState) (body later : List ℕ) (said : Option (List ℕ))
+    → (long ≡ true → IsPassedOver s said s') → (long ≡ false → IsTakenBefore s body later said s')
+    → MatchBool long (IsPassedOver s said s') (IsTakenBefore s body later said s')
+served_as true s s' body later said passed taken = passed refl
+served_as false s s' body later said passed taken = taken refl
+
+-- a question stays cancelled whatever follows
+refused_more : (asked : Asked) (later more : List ℕ) (said : Option (List ℕ)) → IsRefusedAs asked later said
+    → IsRefusedAs asked (later ++ more) said
+refused_more (request id name) later more said h = (h.0, cancelled_more id later more h.1, h.2)
+refused_more (notification name) later more said h = absurd h
+refused_more response later more said h = absurd h
+refused_more invalid later more said h = absurd h
+
+taken_more : (s s' : ServerState) (body later more : List ℕ) (said : Option (List ℕ))
+    → IsTakenBefore s body later said s' → IsTakenBefore s body (later ++ more) said s'
+taken_more s s' body later more said (inl taken) = inl taken
+taken_more s s' body later more said (inr c) = inr (record {
+  message = c.message;
+  body_is = c.body_is;
+  is_running = c.is_running;
+  is_refused = refused_more (asked_by c.message) later more said c.is_refused;
+  same = c.same;
+})
+
+more_behind : (long : Bool) (s s' : ServerState) (body later more : List ℕ) (said : Option (List ℕ))
+    → MatchBool long (IsPassedOver s said s') (IsTakenBefore s body later said s')
+    → MatchBool long (IsPassedOver s said s') (IsTakenBefore s body (later ++ more) said s')
+more_behind true s s' body later more said h = h
+more_behind false s s' body later more said h = taken_more s s' body later more said h
 
 -- a message that was read is answered
 pub message_answered : (reader reader' : FrameReading) (left left' : Option (List ℕ)) (state state' : ServerState) (p q : Inked) (now now' : Stream) (said : Option (List ℕ))
-    → ReadsFrame reader reader' left left' (Ok Message) → IsTaken state reader'.body said state' → Adds p now q now' (framed_if said) → IsAnswered reader reader' left left' state state' p now q now'
+    → ReadsFrame reader reader' left left' (Ok Message) → IsTakenBefore state reader'.body reader'.unread said state' → Adds p now q now' (framed_if said) → IsAnswered reader reader' left left' state state' p now q now'
 message_answered reader reader' left left' state state' p q now now' said reads taken adds =
     let short = reads.found.1 in
     record {
@@ -37,7 +64,9 @@ message_answered reader reader' left left' state state' p q now now' said reads 
       body = reader'.body;
       framed_is = reads.found.0;
       said = said;
-      served = served_as (nat_lt most_body (length reader'.body)) state state' reader'.body said (λ long. let lt = ltb-true most_body (length reader'.body) long in absurd (omega (arith, short, lt))) (λ no. taken);
+      served = served_as (nat_lt most_body (length reader'.body)) state state' reader'.body reader'.unread said
+          (λ long. let lt = ltb-true most_body (length reader'.body) long in absurd (omega (arith, short, lt)))
+          (λ no. taken);
       adds = adds;
     }
 
@@ -53,38 +82,34 @@ long_answered reader reader' left left' state state' p q now now' said reads pas
       body = body;
       framed_is = reads.found.1;
       said = said;
-      served = served_as (nat_lt most_body (length body)) state state' body said (λ yes. passed) (λ no. let le = ltb-false most_body (length body) no in absurd (omega (arith, long, le)));
+      served = served_as (nat_lt most_body (length body)) state state' body reader'.unread said (λ yes. passed)
+          (λ no. let le = ltb-false most_body (length body) no in absurd (omega (arith, long, le)));
       adds = adds;
     }
 
 module _ (on : Ground) where
   -- ---- messages
 
-  -- a message is one whatever follows
-  framed_more : (bytes body rest more : List ℕ) → IsFramed bytes body rest → IsFramed (bytes ++ more) body (rest ++ more)
-  framed_more bytes body rest more f = record {
-    fields = f.fields;
-    last = f.last;
-    reads = subst (ReadsSection (bytes ++ more) f.fields f.last) (append_assoc body rest more) (ReadsSection-append bytes f.fields f.last (body ++ rest) more f.reads);
-    length_is = f.length_is;
-    few = f.few;
-    short_head = f.short_head;
-  }
-
   -- more follows
   served_more : (state state' : ServerState) (served : List Exchange) (input rest more : List ℕ) → AreServed state served input rest state' → AreServed state served (input ++ more) (rest ++ more) state'
   served_more state state' [] input rest more h = (ap (λ l. l ++ more) h.0, h.1)
   served_more state state' (x ∷ xs) input rest more h =
-      (h.0, h.1 ++ more, framed_more input x.body h.1 more h.2, h.3, served_more x.state state' xs h.1 rest more h.4)
+      (
+        h.0,
+        h.1 ++ more,
+        framed_more input x.body h.1 more h.2,
+        more_behind (nat_lt most_body (length x.body)) state x.state x.body h.1 more x.said h.3,
+        served_more x.state state' xs h.1 rest more h.4,
+      )
 
   -- one message more
   served_then : (state mid : ServerState) (served : List Exchange) (x : Exchange) (input rest next : List ℕ) → AreServed state served input rest mid → end_of mid.life ≡ None
-      → IsFramed rest x.body next → IsServed mid x.body x.said x.state → AreServed state (served ++ x ∷ []) input next x.state
+      → IsFramed rest x.body next → IsServed mid x.body next x.said x.state → AreServed state (served ++ x ∷ []) input next x.state
   served_then state mid [] x input rest next h goes is says = (
     ap (λ (s : ServerState). end_of s.life) (sym h.1) ∙ goes,
     next,
     subst (λ b. IsFramed b x.body next) h.0 is,
-    subst (λ l. IsServed l x.body x.said x.state) h.1 says,
+    subst (λ l. IsServed l x.body next x.said x.state) h.1 says,
     (refl, refl),
   )
   served_then state mid (y ∷ ys) x input rest next h goes is says = (h.0, h.1, h.2, h.3, served_then y.state mid ys x h.1 rest next h.4 goes is says)

@@ -34,7 +34,7 @@ pub record Exchange : Type 0 where
 abbrev pub AreServed : ServerState → List Exchange → (input rest : List ℕ) → ServerState → Type 0
 AreServed state [] input rest state' = (rest ≡ input) × (state' ≡ state)
 AreServed state (x ∷ xs) input rest state' = (end_of state.life ≡ None) × (next : List ℕ)
-    × IsFramed input x.body next × IsServed state x.body x.said x.state
+    × IsFramed input x.body next × IsServed state x.body next x.said x.state
     × AreServed x.state xs next rest state'
 
 -- what is written: what is said to each message, once, with its header
@@ -134,7 +134,7 @@ pub record IsAnswered (reader reader' : FrameReading) (left left' : Option (List
   pub body : List ℕ
   pub framed_is : IsFramed (reader.unread ++ come) body reader'.unread
   pub said : Option (List ℕ)
-  pub served : IsServed state body said state'
+  pub served : IsServed state body reader'.unread said state'
   pub adds : Adds p now q now' (framed_if said)
 
 -- nothing is done where there is none

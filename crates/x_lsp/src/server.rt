@@ -1,8 +1,11 @@
 //! A server: what it says to each message, and the documents that are open.
 
-ghost use Rattle.std.specs.Prelude.{◌≡◌, ◌≢◌, ◌⊎◌, IfErr, IfOk, IfSome, MatchBool, None, codes, false};
-ghost use Rattle.std.specs.Prelude.{Err, option_map, true};
+ghost use Rattle.std.specs.Prelude.{◌≡◌, ◌≢◌, ◌⊎◌, IfErr, IfOk, IfSome, IsTrue, MatchBool, None, codes};
+ghost use Rattle.std.specs.Prelude.{Err, false, option_map, true};
+ghost use Rattle.std.specs.Str.{IsUtf8};
+ghost use Rattle.serde_json.specs.Data.{null};
 ghost use Rattle.serde_json.specs.Find.{get};
+ghost use Rattle.serde_json.specs.Read.{read};
 ghost use Rattle.serde_json.specs.View.{view};
 ghost use Rattle.serde_json.specs.Written.{has_float};
 ghost use Rattle.x_documents.specs.Grounds.{ground_of};
@@ -15,10 +18,12 @@ ghost use Rattle.x_frames.specs.Lives.{end_of, is_of_question, is_of_request, li
 ghost use Rattle.x_frames.specs.Lives.{method_named};
 ghost use Rattle.x_frames.specs.Messages.{asked_by};
 ghost use Rattle.x_frames.specs.Notes.{noted_by};
+ghost use Rattle.x_frames.specs.declared.answers.ErrorCode.TheVariants.{ParseError};
 ghost use Rattle.x_frames.specs.declared.life.Life.TheVariants.{Running};
 ghost use Rattle.x_frames.specs.declared.method.Method.TheVariants.{Ask, Initialize};
 ghost use Rattle.x_lsp.specs.Answering.{FindsAt, FindsOf, IsAnsweredBy, asked_document};
-ghost use Rattle.x_lsp.specs.States.{GoesBy, GoesBySame, IsAskedOf, IsInitialized, IsPassedOver, Makes};
+ghost use Rattle.x_lsp.specs.States.{GoesBy, GoesBySame, IsAskedOf, IsCancelled, IsInitialized};
+ghost use Rattle.x_lsp.specs.States.{IsMisread, IsPassedOver, IsQuestion, IsRefusedAs, LosesAll, Makes};
 ghost use Rattle.x_lsp.specs.States.{MakesOf};
 ghost use Rattle.x_lsp.specs.States.{fresh, is_running, state_of};
 
@@ -28,12 +33,16 @@ use x_contents::answer_about_document;
 use x_documents::{Documents, KeptTexts, OpenDocument, Reply, Setting, refused};
 use x_frames::{
     ErrorCode, Incoming, Life, Method, PositionQuestion, Question, answer, capabilities_of,
-    classify, document_note, result_text, uri_in,
+    classify, document_note, is_cancelled, mended_message, misread_note, result_text, uri_in,
 };
 use x_hash::HashKey;
 use x_positions::Encoding;
 use x_published::{Client, client_in};
 use x_questions::{OpenText, answer_about_place};
+
+/// How long a question is at most that can be cancelled, so that no other message is read twice that takes
+/// long to read.
+const LONGEST_QUESTION: usize = 65_536;
 
 /// A server of a client.
 #[derive(Drop)]
@@ -93,11 +102,52 @@ impl<'k> Server<'k> {
             Ok(message) => return self.reply_to(&message),
             Err(error) => error,
         };
-        let _ = self.documents.lose_all();
         if error.is_memory() {
+            let _ = self.documents.lose_all();
             return Reply::NoMemoryAnswer;
         }
+        self.reply_to_no_json(body)
+    }
+
+    /// Answers what is said to a body that is no JSON: but for halves of pairs of surrogates it may be a
+    /// notification about a document.
+    fn reply_to_no_json(&mut self, body: &[u8]) -> Reply
+        requires { IsUtf8 body.now → read body.now ≡ None }
+        ensures said { IsSaid self.old.life body.now (said_of result) self.new.life }
+        ensures makes { Makes (state_of self.old) body.now (said_of result) (state_of self.new) }
+    {
+        if let Some(message) = mended_message(self.alloc, body) {
+            if let Some(reply) = self.miss(&message) {
+                return reply;
+            }
+        }
+        self.refuse_no_json()
+    }
+
+    /// Refuses a body that is no JSON, which may have been a change of any document.
+    fn refuse_no_json(&mut self) -> Reply
+        ensures said { IsRefused null ParseError (said_of result) }
+        ensures life { self.new.life ≡ self.old.life }
+        ensures loses { LosesAll (state_of self.old) (state_of self.new) }
+    {
+        let _lost = self.documents.lose_all();
         refused(self.alloc, &Value::Null, ErrorCode::ParseError)
+    }
+
+    /// Takes a message that was misread for a notification which is not understood, if it is one about a
+    /// document and the server runs.
+    fn miss(&mut self, message: &Value) -> Option<Reply>
+        ensures misread { IfSome result (λ reply. IsMisread (state_of self.old) (view message.now)
+            (said_of reply) (state_of self.new)) }
+        ensures none { result ≡ None → self.new ≡ self.old }
+    {
+        if !is_running(self.life) {
+            return None;
+        }
+        match misread_note(message) {
+            Some(note) => Some(self.documents.note(self.client, &self.setting, note)),
+            None => None,
+        }
     }
 
     /// Refuses a message that was too long to be read, which may have been a change of any document.
@@ -106,6 +156,21 @@ impl<'k> Server<'k> {
     {
         let _all_lost = self.documents.lose_all();
         refused(self.alloc, &Value::Null, ErrorCode::TooLong)
+    }
+
+    /// Refuses a question that a message cancels which is whole in the bytes behind it. There is no reply to
+    /// any other message.
+    pub(crate) fn refuse_cancelled(&self, body: &[u8], later: &[u8]) -> Option<Reply>
+        ensures { IfSome result (λ reply. IsCancelled (state_of self.now) body.now later.now
+            (said_of reply) (state_of self.now)) }
+    {
+        if later.is_empty() || body.len() > LONGEST_QUESTION || !is_running(self.life) {
+            return None;
+        }
+        match Value::from_slice(self.alloc, body) {
+            Ok(message) => refused_as(self.alloc, &message, later),
+            Err(_) => None,
+        }
     }
 
     /// Does what a message asks for, and answers what is said to it.
@@ -295,4 +360,33 @@ impl<'k> Server<'k> {
             Reply::Nothing
         }
     }
+}
+
+/// Whether a server carries out questions.
+fn is_running(life: Life) -> bool
+    ensures { IsTrue result → life ≡ Running }
+{
+    life == Life::Running
+}
+
+/// Refuses a message that is a question, if one cancels it which is whole in the bytes behind it.
+fn refused_as(alloc: Global, message: &Value, later: &[u8]) -> Option<Reply>
+    ensures { IfSome result
+        (λ reply. IsRefusedAs (asked_by (view message.now)) later.now (said_of reply)) }
+{
+    let Incoming::Request { id, method } = classify(message) else {
+        return None;
+    };
+    if is_question(method) && is_cancelled(alloc, later, id) {
+        Some(refused(alloc, id, ErrorCode::RequestCancelled))
+    } else {
+        None
+    }
+}
+
+/// Whether a request of this name is a question about a document.
+fn is_question(name: &str) -> bool
+    ensures { IsTrue result → IsQuestion name.now }
+{
+    matches!(Method::named(name), Some(Method::Ask(_)))
 }

@@ -7,7 +7,7 @@ ghost use Rattle.x_frames.specs.Framing.{FailsReading};
 ghost use Rattle.x_documents.specs.Grounds.{ground_of};
 ghost use Rattle.x_documents.specs.Replies.{said_of};
 ghost use Rattle.x_lsp.specs.Serving.{AnswersNext, NamesFault, Serves, stop_by};
-ghost use Rattle.x_lsp.specs.States.{fresh, state_of};
+ghost use Rattle.x_lsp.specs.States.{IsTakenBefore, fresh, state_of};
 
 use crate::server::Server;
 use std::alloc::Global;
@@ -138,7 +138,7 @@ fn answer_next<I: Tap, O: Sink>(
 {
     match reader.next(input) {
         Ok(FrameFound::Message) => {
-            let reply = server.reply(reader.body());
+            let reply = take_message(server, reader.body(), reader.unread());
             add_reply(server, &reply, pen, out);
             Ok(Next::Answered)
         }
@@ -149,6 +149,17 @@ fn answer_next<I: Tap, O: Sink>(
         }
         Ok(FrameFound::End) => Ok(Next::NoMore),
         Err(fault) => Err(fault),
+    }
+}
+
+/// Answers a message with these bytes behind it.
+fn take_message(server: &mut Server, body: &[u8], later: &[u8]) -> Reply
+    ensures { IsTakenBefore (state_of server.old) body.now later.now (said_of result)
+        (state_of server.new) }
+{
+    match server.refuse_cancelled(body, later) {
+        Some(reply) => reply,
+        None => server.reply(body),
     }
 }
 

@@ -1,7 +1,7 @@
 use Rattle.std.proofs.Common.{Ok, subst}
 use Rattle.x_frames.specs.Framing.{ReadsFrame}
 use Rattle.x_documents.specs.Replies.{said_of}
-use Rattle.x_lsp.specs.States.{IsTaken, state_of}
+use Rattle.x_lsp.specs.States.{IsTakenBefore, state_of}
 use Rattle.x_lsp.proofs.ServingLemmas.{long_answered, message_answered}
 use Rattle.x_lsp.proofs.serving.answer_next.Goals as goal
 
@@ -10,9 +10,13 @@ returns-in-Ok-Message-clause-answers g c =
     let left = (g.I.Tap.state c.args.input.now).bytes in
     let left' = (g.I.Tap.state c.next.new.tap).bytes in
     let reads = subst (λ f. ReadsFrame c.args.reader.now c.next.new.self left left' (Ok f)) c.in-Ok-Message.field-0-is c.in-Ok-Message.ensures.frame in
-    message_answered c.args.reader.now c.next.new.self left left' (state_of c.args.server.now) (state_of c.reply-reply.new.self) c.args.pen.now c.add_reply.new.pen
-    (g.O.Sink.state c.args.out.now) (g.O.Sink.state c.add_reply.new.sink) (said_of c.reply-reply.result) reads
-    (subst (λ b. IsTaken (state_of c.args.server.now) b (said_of c.reply-reply.result) (state_of c.reply-reply.new.self)) c.body.ensures (record { is_said = c.reply-reply.ensures.said; makes = c.reply-reply.ensures.makes }))
+    let state = state_of c.args.server.now in
+    let state' = state_of c.take_message-reply.new.server in
+    let said = said_of c.take_message-reply.result in
+    message_answered c.args.reader.now c.next.new.self left left' state state' c.args.pen.now c.add_reply.new.pen
+    (g.O.Sink.state c.args.out.now) (g.O.Sink.state c.add_reply.new.sink) said reads
+    (subst (λ l. IsTakenBefore state c.next.new.self.body l said state') c.unread.ensures
+    (subst (λ b. IsTakenBefore state b c.unread.result.now said state') c.body.ensures c.take_message-reply.ensures))
     c.add_reply.ensures
 
 pub returns-in-Ok-Long-clause-answers : goal.returns-in-Ok-Long-clause-answers
