@@ -1,5 +1,5 @@
 -- What is told of faults, one after another.
-use Rattle.std.proofs.Common.{◌≡◌, ◌∙◌, ℕ, ◌+◌, ◌<◌, ◌++◌, List, [], ◌∷◌, ap, get_or, length, map, subst, sym, take}
+use Rattle.std.proofs.Common.{◌≡◌, ◌∙◌, ℕ, ◌+◌, ◌<◌, ◌++◌, List, [], ◌∷◌, ap, get_or, length, subst, sym, take}
 use Rattle.serde_json.specs.Data.{Data}
 use Rattle.x_compile.specs.Compile.{Item}
 use Rattle.x_compile.specs.declared.fault.FaultPlace.{FaultPlace}

@@ -14,7 +14,7 @@ use Rattle.x_frames.specs.Lives.{method_named}
 use Rattle.x_frames.specs.Messages.{Asked, asked_by, request, notification, response, invalid}
 use Rattle.x_frames.specs.Halves.{mended}
 use Rattle.x_frames.specs.Notes.{Noted, misread_by, noted_by}
-use Rattle.x_frames.specs.declared.answers.ErrorCode.TheVariants.{RequestCancelled, TooLong}
+use Rattle.x_frames.specs.declared.answers.ErrorCode.TheVariants.{ParseError, RequestCancelled, TooLong}
 use Rattle.x_frames.specs.declared.life.Life.{Life}
 use Rattle.x_frames.specs.declared.life.Life.TheVariants.{Fresh, Running, ShutDown, Ended}
 use Rattle.x_frames.specs.declared.method.Method.{Method}
@@ -91,7 +91,8 @@ MakesOf s invalid params said s' = GoesBySame s s' × (s'.documents ≡ s.docume
 abbrev pub LosesAll : ServerState → ServerState → Type 0
 LosesAll s s' = GoesBySame s s' × (s'.documents ≡ map lost s.documents)
 
--- A notification about a document is misread: it is taken for one that is not understood.
+-- A notification that opens, changes or closes a document is misread: it is taken for one that is not
+-- understood.
 pub record IsMisread (s : ServerState) (message : Data) (said : Option (List ℕ)) (s' : ServerState) : Type 0
   where
     pub noted : Noted
@@ -110,7 +111,8 @@ pub data Makes (s : ServerState) (body : List ℕ) (said : Option (List ℕ)) (s
       → MakesOf s (asked_by message) (get (codes "params") message) said s' → Makes s body said s'
   by_misread : (message : Data) → (IsUtf8 body → read body ≡ None) → read (mended body) ≡ Some message
       → IsMisread s message said s' → Makes s body said s'
-  by_no_json : (IsUtf8 body → read body ≡ None) → LosesAll s s' → Makes s body said s'
+  by_no_json : (IsUtf8 body → read body ≡ None) → IsRefused null ParseError said → LosesAll s s'
+      → Makes s body said s'
   by_no_memory : said ≡ Some no_memory_answer → LosesAll s s' → Makes s body said s'
 
 -- what is said to a body that is read, and what it makes of a server

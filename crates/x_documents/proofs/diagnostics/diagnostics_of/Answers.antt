@@ -1,4 +1,4 @@
-use Rattle.std.proofs.Common.{◌≡◌, ◌+◌, ◌++◌, ◌∙◌, [], ◌∷◌, ap, get_or, map, refl, subst, sym, take}
+use Rattle.std.proofs.Common.{◌+◌, ◌∙◌, [], ap, get_or, map, refl, subst, sym, take}
 use Rattle.x_compile.specs.Compile.{IsCompilation}
 use Rattle.x_compile.specs.declared.fault.FaultCode.TheVariants as fault_codes
 use Rattle.x_parser.specs.declared.fault_code.FaultCode.TheVariants as item_codes

@@ -1,4 +1,4 @@
-use Rattle.std.proofs.Common.{◌≡◌, ◌∙◌, ◌+◌, ◌-◌, ◌<◌, ◌≤◌, Ok, Err, ap, drop, refl, subst, sym, length, arith}
+use Rattle.std.proofs.Common.{◌≡◌, ◌∙◌, ◌+◌, ◌-◌, Ok, Err, ap, drop, refl, subst, sym, length, arith}
 use Rattle.std.proofs.lemmas.Result.{err_from_is_err_and}
 use Rattle.x_frames.specs.FrameSteps.{HasPassed}
 use Rattle.x_frames.proofs.FrameLemmas.{fewer_so, passed_all, passed_fewer, passed_front, passed_none}

@@ -1,4 +1,4 @@
-use Rattle.std.proofs.Common.{◌≡◌, ◌∙◌, ap, sym, drop, take, length, arith}
+use Rattle.std.proofs.Common.{◌∙◌, ap, sym, drop, take, length, arith}
 use Rattle.std.proofs.lemmas.List.{length-map, length-take}
 use Rattle.httparse.specs.Spans.{header_bytes, name_and_value}
 use Rattle.x_frames.specs.Framing.{announced}

@@ -34,5 +34,6 @@ returns-clause-said c =
 
 pub returns-clause-makes : goal.returns-clause-makes
 returns-clause-makes c =
-    by_no_json c.requires (subst (λ (s : Server). LosesAll (state_of s) (state_of c.refuse_no_json.new.self)) (same c)
+    by_no_json c.requires c.refuse_no_json.ensures.said
+    (subst (λ (s : Server). LosesAll (state_of s) (state_of c.refuse_no_json.new.self)) (same c)
     c.refuse_no_json.ensures.loses)
