@@ -12,11 +12,7 @@ use std::alloc::Global;
 use x_text::NoMemory;
 
 /// Writes bytes as a string of JSON.
-pub(crate) fn write_string(
-    alloc: Global,
-    bytes: &[u8],
-    text: &mut Vec<u8>,
-) -> Result<(), NoMemory>
+pub(crate) fn write_string(alloc: Global, bytes: &[u8], text: &mut Vec<u8>) -> Result<(), NoMemory>
     ensures { OnOk result
         (text.new.items ≡ text.old.items ++ compact_text (string (utf8_lossy bytes.now))) }
 {

@@ -93,14 +93,13 @@ module _ (on : Ground) where
   -- more follows
   served_more : (state state' : ServerState) (served : List Exchange) (input rest more : List ℕ) → AreServed state served input rest state' → AreServed state served (input ++ more) (rest ++ more) state'
   served_more state state' [] input rest more h = (ap (λ l. l ++ more) h.0, h.1)
-  served_more state state' (x ∷ xs) input rest more h =
-      (
-        h.0,
-        h.1 ++ more,
-        framed_more input x.body h.1 more h.2,
-        more_behind (nat_lt most_body (length x.body)) state x.state x.body h.1 more x.said h.3,
-        served_more x.state state' xs h.1 rest more h.4,
-      )
+  served_more state state' (x ∷ xs) input rest more h = (
+    h.0,
+    h.1 ++ more,
+    framed_more input x.body h.1 more h.2,
+    more_behind (nat_lt most_body (length x.body)) state x.state x.body h.1 more x.said h.3,
+    served_more x.state state' xs h.1 rest more h.4,
+  )
 
   -- one message more
   served_then : (state mid : ServerState) (served : List Exchange) (x : Exchange) (input rest next : List ℕ) → AreServed state served input rest mid → end_of mid.life ≡ None
