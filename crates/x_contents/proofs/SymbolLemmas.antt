@@ -15,7 +15,7 @@ use Rattle.x_frames.proofs.TextLemmas.{eleven, five, list_ended}
 use Rattle.x_lex.specs.Places.{Lexeme}
 use Rattle.x_trees.specs.Tree.{Definition}
 use Rattle.x_compile.specs.Compile.{Item, parsed_definition}
-use Rattle.x_declared.specs.ItemWalks.{over_items}
+use Rattle.x_session.specs.ItemWalks.{over_items}
 use Rattle.x_positions.specs.PositionData.{position_data, range_data}
 use Rattle.x_positions.specs.declared.encoding.Encoding.{Encoding}
 use Rattle.x_positions.specs.declared.positions.Position.{Position}

@@ -9,14 +9,14 @@ use Rattle.x_frames.specs.ListTexts.{ended, entry_text}
 use Rattle.x_frames.proofs.TextLemmas.{list_ended}
 use Rattle.x_lex.specs.Places.{Lexeme}
 use Rattle.x_trees.specs.Words.{is_significant}
-use Rattle.x_declared.specs.DeclaredNames.{words_in}
+use Rattle.x_session.specs.DeclaredNames.{words_in}
 use Rattle.x_names.specs.Declarers.{first_declarer}
 use Rattle.x_names.specs.declared.names.Declarer.{Declarer}
 use Rattle.x_compile.specs.Compile.{Item, definitions_of}
 use Rattle.x_compile.specs.Known.{KnownText}
 use Rattle.x_compile.proofs.Compiled.{one_compilation}
 use Rattle.x_session.specs.Session.{Compiles}
-use Rattle.x_declared.specs.ItemWalks.{over_items}
+use Rattle.x_session.specs.ItemWalks.{over_items}
 use Rattle.x_positions.specs.Positions.{position_of}
 use Rattle.x_positions.specs.declared.encoding.Encoding.{Encoding}
 use Rattle.x_contents.specs.Tokens.{Told, ends_at, none_told, number_text, numbers_in, tokens_data, tokens_text, with_item, with_lines, with_part}

@@ -7,7 +7,7 @@ use Rattle.serde_json.specs.View.{items_of}
 use Rattle.x_lex.specs.Places.{Lexeme}
 use Rattle.x_trees.specs.Tree.{Definition}
 use Rattle.x_compile.specs.Compile.{Item}
-use Rattle.x_declared.specs.ItemWalks.{over_items}
+use Rattle.x_session.specs.ItemWalks.{over_items}
 use Rattle.x_positions.specs.PositionData.{range_data}
 use Rattle.x_positions.specs.Positions.{position_of}
 use Rattle.x_positions.specs.declared.encoding.Encoding.{Encoding}

@@ -10,7 +10,7 @@ use Rattle.x_trees.specs.Tree.{Definition}
 use Rattle.x_names.specs.Declarers.{first_declarer}
 use Rattle.x_names.specs.declared.names.Declarer.{Declarer}
 use Rattle.x_compile.specs.Compile.{Item, definitions_of}
-use Rattle.x_declared.specs.ItemWalks.{over_items}
+use Rattle.x_session.specs.ItemWalks.{over_items}
 use Rattle.x_frames.specs.ListTexts.{ended}
 use Rattle.x_positions.specs.Positions.{ends_line, position_of}
 use Rattle.x_positions.specs.declared.encoding.Encoding.{Encoding}

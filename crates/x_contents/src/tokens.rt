@@ -12,7 +12,7 @@ ghost use Rattle.x_item.specs.Parse.{IsParse, Parse};
 ghost use Rattle.x_names.specs.DeclarerTable.{first_in};
 ghost use Rattle.x_compile.specs.Compile.{parsed_definition};
 ghost use Rattle.x_session.specs.Session.{Compiles};
-ghost use Rattle.x_declared.specs.ItemWalks.{over_items};
+ghost use Rattle.x_session.specs.ItemWalks.{over_items};
 ghost use Rattle.x_frames.specs.ListTexts.{ended};
 ghost use Rattle.x_positions.specs.Positions.{position_of};
 ghost use Rattle.x_contents.specs.Reading.{told_of};
@@ -23,14 +23,13 @@ ghost use Rattle.x_contents.specs.Tokens.{ends_at, kind_if, number_text, numbers
 ghost use Rattle.x_contents.specs.Tokens.{with_lines, with_part, with_token, with_tokens};
 
 use std::alloc::Global;
-use x_declared::names;
 use x_frames::{end_list, write_number};
 use x_item::{Definition, Glossary, Mention, NameKind, is_significant, next_item};
 use x_lex::{Kind, Token};
 use x_lookups::{Part, PartKind, parts_of};
 use x_names::{Names, is_beforehand};
 use x_positions::{Encoding, Places, Position};
-use x_session::Session;
+use x_session::{Session, names};
 use x_text::{NoMemory, Source};
 
 /// What a token is, in the order of `tokenTypes` in the server's capabilities.

@@ -3,8 +3,8 @@ use Rattle.std.proofs.Common.{◌≡◌, ℕ, suc, ◌+◌, ◌<◌, ◌++◌, L
 use Rattle.std.proofs.Common.{drop-cons, sym, ap, subst, ◌∙◌}
 use Rattle.std.proofs.lemmas.List.{drop_more, map-append}
 use Rattle.serde_json.specs.Data.{Data}
-use Rattle.x_declared.specs.Foreign.{ForeignName, view_all, view_foreign}
-use Rattle.x_declared.specs.declared.foreign.ForeignName as rust
+use Rattle.x_session.specs.Foreign.{ForeignName, view_all, view_foreign}
+use Rattle.x_session.specs.declared.foreign.ForeignName as rust
 use Rattle.x_explain.proofs.FoundLemmas.{take_more}
 use Rattle.x_positions.specs.declared.encoding.Encoding.{Encoding}
 use Rattle.x_published.specs.Diagnostics.{AreForeignHints, IsForeignHint}

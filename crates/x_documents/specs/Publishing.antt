@@ -6,7 +6,7 @@ use Rattle.serde_json.specs.Data.{Data}
 use Rattle.serde_json.specs.Written.{compact_text}
 use Rattle.x_compile.specs.Compile.{Item, faults_of}
 use Rattle.x_compile.specs.declared.fault.FaultPlace.{FaultPlace}
-use Rattle.x_declared.specs.Foreign.{ForeignName}
+use Rattle.x_session.specs.Foreign.{ForeignName}
 use Rattle.x_prelude.specs.Foreign.{AreForeign}
 use Rattle.x_frames.specs.KeptSaid.{no_memory_note}
 use Rattle.x_told.specs.Choosing.{chosen, left_out}

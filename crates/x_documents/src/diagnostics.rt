@@ -12,7 +12,7 @@ ghost use Rattle.x_compile.specs.Faults.{fault_text};
 ghost use Rattle.x_compile.specs.declared.fault.FaultPlace.{FaultPlace};
 ghost use Rattle.x_session.specs.Session.{Compiles};
 ghost use Rattle.x_explain.specs.Found.{AreFound, IsEndOfToken};
-ghost use Rattle.x_declared.specs.Foreign.{view_all};
+ghost use Rattle.x_session.specs.Foreign.{view_all};
 ghost use Rattle.x_directives.specs.Conditionals.{conditionals};
 ghost use Rattle.x_published.specs.Diagnostics.{AreDiagnostics, AreForeignHints, IsDiagnostic, closing_data};
 ghost use Rattle.x_published.specs.Diagnostics.{diagnostic_data, fault_number, hint_data};
@@ -25,7 +25,6 @@ ghost use Rattle.x_positions.specs.Waymarks.{AreWaymarks};
 use crate::warned_names::{add_some, add_warnings};
 use serde_json::json;
 use std::alloc::{AllocError, Global};
-use x_declared::ForeignName;
 use x_directives::conditionals;
 use x_explain::{FoundFault, token_end};
 use x_frames::note;
@@ -34,7 +33,7 @@ use x_published::{
     Client, Diagnostic, FaultMessages, Message, OtherPlaces, Severity, branch_message,
     foreign_message, place_of, published_text, severity_of, unshown,
 };
-use x_session::Session;
+use x_session::{ForeignName, Session};
 use x_text::NoMemory;
 use x_told::{chosen_faults, word_at};
 

@@ -12,8 +12,8 @@ use Rattle.x_compile.specs.Compile.{IsCompilation, Item, definition_at, parsed_d
 use Rattle.x_compile.specs.Known.{KnownText}
 use Rattle.x_session.specs.Session.{Compiles}
 use Rattle.x_explain.specs.AgainNames.{again_among, again_from, again_in, at_start, ends_with_own, name_at, start_again}
-use Rattle.x_declared.proofs.DeclaredLemmas.{of_each}
-use Rattle.x_declared.proofs.ItemsLeft.{item_at, none_left}
+use Rattle.x_session.proofs.DeclaredLemmas.{of_each}
+use Rattle.x_session.proofs.ItemsLeft.{item_at, none_left}
 
 -- the last of a list of names
 pub ends_with : (word : ℕ) (names : List DeclaredName) (x : DeclaredName) → slice_get names (length names - 1) ≡ Some x → ends_with_own word (map view_name names) ≡ nat_eq x.word word && not x.lifted

@@ -6,8 +6,8 @@ use Rattle.x_streams.specs.Streams.{Stream}
 use Rattle.x_streams.specs.Writing.{Adds, Inked}
 use Rattle.x_streams.proofs.Pens.{adds_trans}
 use Rattle.x_explain.specs.Explained.{foreign_line}
-use Rattle.x_declared.specs.Foreign.{view_all, view_foreign}
-use Rattle.x_declared.specs.declared.foreign.ForeignName as rust
+use Rattle.x_session.specs.Foreign.{view_all, view_foreign}
+use Rattle.x_session.specs.declared.foreign.ForeignName as rust
 
 pub line_more : (coloured : Bool) (file : List ℕ) (names : List rust.ForeignName) (i : ℕ) (d : rust.ForeignName)
     (p q r : Inked) (a b c : Stream) → i < length names

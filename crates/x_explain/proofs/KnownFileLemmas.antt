@@ -3,14 +3,14 @@ use Rattle.std.proofs.Common.{◌≡◌, ℕ, Option, None, Some, List, [], ◌�
 use Rattle.std.specs.Prelude.{option_map}
 use Rattle.std.specs.Option.{option_or}
 use Rattle.x_compile.specs.Compile.{Item}
-use Rattle.x_declared.specs.declared.declared.FirstPlace.{FirstPlace}
+use Rattle.x_session.specs.declared.declared.FirstPlace.{FirstPlace}
 use Rattle.x_explain.specs.declared.known_files.FirstDeclaration as rust
 use Rattle.x_explain.specs.declared.known_files.KnownFile.{KnownFile}
-use Rattle.x_declared.specs.DeclaredNames.{IsTableOf, first_place}
+use Rattle.x_session.specs.DeclaredNames.{IsTableOf, first_place}
 use Rattle.x_explain.specs.KnownFiles.{FirstDeclaration, KnownPlaces, declared_in, file_place, first_declaration}
-use Rattle.x_declared.specs.DeclaredNames.{place_in}
+use Rattle.x_session.specs.DeclaredNames.{place_in}
 use Rattle.x_explain.specs.KnownFiles.{places_of_files, view_first, with_file}
-use Rattle.x_declared.proofs.DeclaredLemmas.{place_items}
+use Rattle.x_session.proofs.DeclaredLemmas.{place_items}
 
 or_none : {X : Type 0} (o : Option X) → option_or o None ≡ o
 or_none None = refl

@@ -18,7 +18,7 @@ use Rattle.x_explain.specs.Explained.{IsPass, Telling, is_note, notes_at, said_b
 use Rattle.x_explain.specs.Facts.{Known, known_of}
 use Rattle.x_explain.specs.Found.{AreFound, IsFound}
 use Rattle.x_explain.specs.KnownFiles.{KnownPlaces}
-use Rattle.x_declared.proofs.DeclaredLemmas.{of_each}
+use Rattle.x_session.proofs.DeclaredLemmas.{of_each}
 use Rattle.x_explain.proofs.FoundLemmas.{found_more}
 
 -- the notes among one place and others

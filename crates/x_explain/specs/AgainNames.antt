@@ -11,7 +11,7 @@ use Rattle.x_names.specs.Declarers.{declarer_at, first_declarer}
 use Rattle.x_names.specs.declared.names.Declarer.{Declarer}
 use Rattle.x_compile.specs.Compile.{Item, definitions_of, parsed_definition}
 use Rattle.x_explain.specs.declared.again.AgainNames.{AgainNames}
-use Rattle.x_declared.specs.DeclaredNames.{word_at}
+use Rattle.x_session.specs.DeclaredNames.{word_at}
 
 -- The last of these names is the word's own. It stands right in front of that of the word's inline type: at
 -- one word the own name comes first.

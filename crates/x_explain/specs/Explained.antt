@@ -14,13 +14,13 @@ use Rattle.x_compile.specs.declared.fault.FaultCode.TheVariants.{Rule}
 use Rattle.x_compile.specs.declared.fault.FaultPlace.{FaultPlace}
 use Rattle.x_compile.specs.Compile.{Item, places_of}
 use Rattle.x_compile.specs.Faults.{fault_text}
-use Rattle.x_declared.specs.declared.declared.FirstPlace.{FirstPlace}
+use Rattle.x_session.specs.declared.declared.FirstPlace.{FirstPlace}
 use Rattle.x_explain.specs.declared.found.FoundFault.{FoundFault}
 use Rattle.x_explain.specs.declared.explained.Pass.{Pass}
 use Rattle.x_explain.specs.declared.explained.Pass.TheVariants.{Errors, Notes}
 use Rattle.x_explain.specs.Excerpts.{Excerpt, excerpt}
 use Rattle.x_explain.specs.Facts.{Known, kind_of, known_of}
-use Rattle.x_declared.specs.Foreign.{ForeignName}
+use Rattle.x_session.specs.Foreign.{ForeignName}
 use Rattle.x_explain.specs.Found.{AreFound}
 use Rattle.x_explain.specs.KnownFiles.{FirstDeclaration, KnownPlaces}
 use Rattle.x_explain.specs.Sentences.{saying, sentence}

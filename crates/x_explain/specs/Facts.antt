@@ -10,8 +10,8 @@ use Rattle.x_explain.specs.declared.facts.FaultFacts.{FaultFacts}
 use Rattle.x_explain.specs.declared.facts.FaultNames.{FaultNames}
 use Rattle.x_explain.specs.declared.facts.Known as rust
 use Rattle.x_explain.specs.AgainNames.{AreAgain, again_at}
-use Rattle.x_declared.specs.DeclaredNames.{IsTableOf}
-use Rattle.x_declared.specs.Foreign.{ForeignName, view_all}
+use Rattle.x_session.specs.DeclaredNames.{IsTableOf}
+use Rattle.x_session.specs.Foreign.{ForeignName, view_all}
 use Rattle.x_explain.specs.KnownFiles.{FirstDeclaration, KnownPlaces, first_declaration, places_of_files}
 use Rattle.x_explain.specs.KnownFiles.{view_first}
 use Rattle.x_explain.specs.Suggestions.{AreSuggested, is_unknown, suggested_at, view_suggestion}

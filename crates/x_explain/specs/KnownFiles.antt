@@ -2,10 +2,10 @@
 use Rattle.std.specs.Prelude.{ℕ, List, [], ◌∷◌, Option, None, Some, map, option_map}
 use Rattle.std.specs.Option.{option_or}
 use Rattle.x_compile.specs.Compile.{Item}
-use Rattle.x_declared.specs.declared.declared.FirstPlace.{FirstPlace}
+use Rattle.x_session.specs.declared.declared.FirstPlace.{FirstPlace}
 use Rattle.x_explain.specs.declared.known_files.FirstDeclaration as rust
 use Rattle.x_explain.specs.declared.known_files.KnownFile.{KnownFile}
-use Rattle.x_declared.specs.DeclaredNames.{first_place, place_in}
+use Rattle.x_session.specs.DeclaredNames.{first_place, place_in}
 
 -- where a name is declared first: in the file of this name, or in the text itself
 pub record FirstDeclaration : Type 0 where

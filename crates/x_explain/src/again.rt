@@ -7,7 +7,7 @@ ghost use Rattle.std.specs.Option.{option_or};
 ghost use Rattle.x_trees.specs.Collected.{view_name};
 ghost use Rattle.x_compile.specs.Compile.{Item};
 ghost use Rattle.x_session.specs.Session.{Compiles};
-ghost use Rattle.x_declared.specs.DeclaredNames.{IsTableOf};
+ghost use Rattle.x_session.specs.DeclaredNames.{IsTableOf};
 ghost use Rattle.x_explain.specs.AgainNames.{AreAgain, again_among, again_at, at_start};
 ghost use Rattle.x_explain.specs.AgainNames.{ends_with_own, entry_at, is_alone, is_elsewhere, name_at};
 ghost use Rattle.x_explain.specs.AgainNames.{start_again, start_of};
@@ -15,11 +15,10 @@ ghost use Rattle.x_explain.specs.AgainNames.{start_again, start_of};
 use indexmap::IndexMap;
 use std::alloc::Global;
 use std::borrow::CowSlice;
-use x_declared::DeclaredNames;
 use x_hash::KeyedTable;
 use x_item::{DeclaredName, Glossary};
 use x_names::Declarer;
-use x_session::Session;
+use x_session::{DeclaredNames, Session};
 use x_text::NoMemory;
 
 /// The whole names of the inline types that a text declares although they are declared before, by place.

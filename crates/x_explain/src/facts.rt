@@ -3,19 +3,18 @@
 ghost use Rattle.std.specs.Prelude.{◌≡◌, IfOk, List, ℕ, option_map};
 ghost use Rattle.x_compile.specs.Compile.{Item};
 ghost use Rattle.x_session.specs.Session.{Compiles};
-ghost use Rattle.x_declared.specs.DeclaredNames.{first_place};
+ghost use Rattle.x_session.specs.DeclaredNames.{first_place};
 ghost use Rattle.x_explain.specs.Facts.{AreFactsOf, AreNamesOf, before_in, first_of, foreign_in};
 ghost use Rattle.x_explain.specs.Facts.{is_of_declarer, known_of, name_of, near_in, suggested_for};
 ghost use Rattle.x_explain.specs.Facts.{view_known};
-ghost use Rattle.x_declared.specs.Foreign.{view_all};
+ghost use Rattle.x_session.specs.Foreign.{view_all};
 ghost use Rattle.x_explain.specs.KnownFiles.{first_declaration, places_of_files, view_first};
 
 use crate::again::AgainNames;
 use crate::known_files::{FirstDeclaration, KnownFiles};
 use crate::suggestions::{Suggestions, is_unknown};
 use std::alloc::Global;
-use x_declared::{DeclaredNames, FirstPlace, ForeignName};
-use x_session::{FaultCode, RuleCode, Session};
+use x_session::{DeclaredNames, FaultCode, FirstPlace, ForeignName, RuleCode, Session};
 use x_text::NoMemory;
 
 /// What is known of a word with a fault.

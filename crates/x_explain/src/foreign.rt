@@ -3,10 +3,10 @@
 ghost use Rattle.std.specs.List.{flat_map};
 ghost use Rattle.x_streams.specs.Writing.{Adds};
 ghost use Rattle.x_explain.specs.Explained.{foreign_line};
-ghost use Rattle.x_declared.specs.Foreign.{view_all, view_foreign};
+ghost use Rattle.x_session.specs.Foreign.{view_all, view_foreign};
 
 use crate::lines::{CYAN, add_painted, add_place};
-use x_declared::ForeignName;
+use x_session::ForeignName;
 use x_text::{Pen, Sink};
 
 /// Adds a line for each of the names.

@@ -5,8 +5,7 @@ ghost use Rattle.x_session.specs.Session.{Compiles};
 ghost use Rattle.x_explain.specs.KnownFiles.{no_places, places_of_files, view_first, with_file};
 
 use std::alloc::Global;
-use x_declared::{DeclaredNames, FirstPlace};
-use x_session::Session;
+use x_session::{DeclaredNames, FirstPlace, Session};
 use x_text::NoMemory;
 
 /// Where a name is declared first.

@@ -12,7 +12,7 @@ use crate::excerpt::Excerpt;
 use crate::known_files::FirstDeclaration;
 use crate::shown::{add_blanks, add_other_tildes, add_shown, first_of};
 use itoa::Buffer;
-use x_declared::FirstPlace;
+use x_session::FirstPlace;
 use x_text::{Pen, Sink};
 use x_value::add_number;
 

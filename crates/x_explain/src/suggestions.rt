@@ -21,9 +21,8 @@ use crate::found::{FoundFault, found_at, word_at};
 use std::alloc::Global;
 use std::borrow::CowSlice;
 use strsim::generic_damerau_levenshtein;
-use x_declared::definitions;
 use x_item::{Definition, declares};
-use x_session::{FaultCode, FaultPlace, RuleCode, Session};
+use x_session::{FaultCode, FaultPlace, RuleCode, Session, definitions};
 use x_text::NoMemory;
 
 /// For how many undeclared words of a text something is suggested.

@@ -6,7 +6,7 @@ use Rattle.std.specs.List.{flat_map}
 use Rattle.x_streams.specs.Streams.{Stream}
 use Rattle.x_compile.specs.Compile.{Item, faults_of}
 use Rattle.x_compile.specs.Known.{KnownText}
-use Rattle.x_declared.proofs.DeclaredLemmas.{of_each}
+use Rattle.x_session.proofs.DeclaredLemmas.{of_each}
 use Rattle.x_session.specs.Session.{Compiles}
 use Rattle.x_args.specs.Telling.{IsTold}
 use Rattle.x_warnings.specs.WarningLines.{warning_line}

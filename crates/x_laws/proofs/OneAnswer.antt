@@ -13,7 +13,7 @@ use Rattle.x_value.specs.FaultTexts.{fault_line}
 use Rattle.x_names.specs.Declarers.{first_declarer}
 use Rattle.x_names.specs.declared.names.Declarer.{Declarer}
 use Rattle.x_rules.specs.Results.{KnownNames}
-use Rattle.x_declared.specs.declared.declared.Spot.{Spot}
+use Rattle.x_session.specs.declared.declared.Spot.{Spot}
 use Rattle.x_prelude.specs.Foreign.{foreign_names, spot_of}
 use Rattle.x_prelude.specs.Leading.{AreLed, IsForeignUse, IsForeignUseBy, declared, first_led, foreign_uses}
 use Rattle.x_prelude.specs.Leading.{not_taken, undeclared}

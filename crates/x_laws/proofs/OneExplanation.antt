@@ -8,7 +8,7 @@ use Rattle.x_compile.specs.Compile.{Item, definitions_of, places_of}
 use Rattle.x_compile.specs.declared.fault.FaultPlace.{FaultPlace}
 use Rattle.x_explain.specs.declared.found.FoundFault.{FoundFault}
 use Rattle.x_explain.specs.Explained.{AreExplained, Telling, explanation}
-use Rattle.x_declared.specs.Foreign.{ForeignName}
+use Rattle.x_session.specs.Foreign.{ForeignName}
 use Rattle.x_explain.specs.Found.{AreFound, IsEndOfToken, IsFound}
 use Rattle.x_explain.specs.KnownFiles.{KnownPlaces}
 use Rattle.x_explain.specs.Suggestions.{AreSuggested, compared, sought, suggested}

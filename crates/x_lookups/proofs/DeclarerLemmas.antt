@@ -17,8 +17,8 @@ use Rattle.x_item.specs.Parse.{IsParse, Parse}
 use Rattle.x_compile.specs.Compile.{Item, AreParses, definitions_of, parsed_definition}
 use Rattle.x_lookups.specs.declared.name_places.Standing.TheVariants.{Uses}
 use Rattle.x_lookups.specs.NamePlaces.{NamePlace, declared_on, first_of, is_use, mentioned_on, name_on, names_by, names_of, names_on, standing_of, tokens_where}
-use Rattle.x_declared.specs.DeclaredNames.{word_at, words_in}
-use Rattle.x_declared.proofs.ItemsLeft.{short_definition}
+use Rattle.x_session.specs.DeclaredNames.{word_at, words_in}
+use Rattle.x_session.proofs.ItemsLeft.{short_definition}
 use Rattle.x_lookups.proofs.NamePlaceLemmas.{where_append}
 
 -- ---- the words that declare names

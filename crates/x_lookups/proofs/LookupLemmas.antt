@@ -10,7 +10,7 @@ use Rattle.x_compile.specs.Compile.{Item, definitions_of}
 use Rattle.x_compile.proofs.Compiled.{one_compilation}
 use Rattle.x_compile.specs.Known.{KnownText}
 use Rattle.x_session.specs.Session.{Compiles}
-use Rattle.x_declared.specs.DeclaredNames.{definition_of, word_at}
+use Rattle.x_session.specs.DeclaredNames.{definition_of, word_at}
 use Rattle.x_lookups.specs.NamePlaces.{first_of, is_lifted_name, is_own, name_at, names_of, references_of, tokens_where, touches, uses_of}
 use Rattle.x_lookups.specs.Unparsed.{any_name_at, unparsed_name, unparsed_use, unparsed_use_at, unparsed_where}
 use Rattle.x_lookups.proofs.DeclarerLemmas.{first_declared, is_declaring}

@@ -14,9 +14,9 @@ use Rattle.x_compile.specs.Compile.{Item, parsed_definition}
 use Rattle.x_compile.specs.Known.{KnownText}
 use Rattle.x_session.specs.Session.{Compiles}
 use Rattle.x_lookups.specs.declared.name_places.Standing.{Standing}
-use Rattle.x_declared.specs.DeclaredNames.{words_in}
-use Rattle.x_declared.specs.ItemWalks.{over_items}
-use Rattle.x_declared.proofs.ItemWalking.{HasWalked, walked_all}
+use Rattle.x_session.specs.DeclaredNames.{words_in}
+use Rattle.x_session.specs.ItemWalks.{over_items}
+use Rattle.x_session.proofs.ItemWalking.{HasWalked, walked_all}
 use Rattle.x_lookups.specs.NamePlaces.{NamePlace, declared_on, mentioned_on, name_on, names_by, names_of, tokens_where}
 
 -- ---- lists of names

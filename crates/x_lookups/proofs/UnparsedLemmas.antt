@@ -12,7 +12,7 @@ use Rattle.x_compile.specs.Compile.{Item, IsCompilation, definition_at, parsed_d
 use Rattle.x_compile.proofs.Compiled.{one_compilation}
 use Rattle.x_compile.specs.Known.{KnownText}
 use Rattle.x_session.specs.Session.{Compiles}
-use Rattle.x_declared.proofs.ItemsLeft.{AreLeft, all_left, item_at, next_item_is, none_left}
+use Rattle.x_session.proofs.ItemsLeft.{AreLeft, all_left, item_at, next_item_is, none_left}
 use Rattle.x_lookups.specs.NamePlaces.{first_of}
 use Rattle.x_lookups.specs.Unparsed.{is_name, unparsed_in, unparsed_where}
 

@@ -10,7 +10,7 @@ use Rattle.x_trees.specs.Mentions.{Mention, mentioned}
 use Rattle.x_names.specs.DeclarerTable.{first_in}
 use Rattle.x_names.specs.declared.names.Declarer.{Declarer}
 use Rattle.x_compile.specs.Compile.{Item, parsed_definition}
-use Rattle.x_declared.specs.DeclaredNames.{words_in}
+use Rattle.x_session.specs.DeclaredNames.{words_in}
 use Rattle.x_lookups.specs.declared.name_places.Standing.{Standing}
 use Rattle.x_lookups.specs.declared.name_places.Standing.TheVariants.{Declares, Lifts, Uses}
 

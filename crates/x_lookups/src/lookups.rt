@@ -3,7 +3,7 @@
 ghost use Rattle.std.specs.Prelude.{◌≡◌, IfOk, is_some, map, option_and_then, option_map};
 ghost use Rattle.x_lex.specs.Places.{lexeme};
 ghost use Rattle.x_session.specs.Session.{Compiles};
-ghost use Rattle.x_declared.specs.DeclaredNames.{definition_of};
+ghost use Rattle.x_session.specs.DeclaredNames.{definition_of};
 ghost use Rattle.x_lookups.specs.NamePlaces.{first_of, is_lifted_name, name_at, references_of};
 ghost use Rattle.x_lookups.specs.Unparsed.{any_name_at, unparsed_use_at};
 

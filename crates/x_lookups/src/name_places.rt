@@ -9,7 +9,7 @@ ghost use Rattle.x_item.specs.Parse.{IsParse, Parse};
 ghost use Rattle.x_compile.specs.Compile.{parsed_definition};
 ghost use Rattle.x_session.specs.Session.{Compiles};
 ghost use Rattle.x_lookups.specs.NamePlaces.{declared_on, is_own, is_use, mentioned_on, name_on};
-ghost use Rattle.x_declared.specs.DeclaredNames.{words_in};
+ghost use Rattle.x_session.specs.DeclaredNames.{words_in};
 ghost use Rattle.x_lookups.specs.NamePlaces.{names_by, names_of, standing_of, tokens_where};
 ghost use Rattle.x_lookups.specs.Sought.{is_sought};
 

@@ -7,10 +7,9 @@ ghost use Rattle.x_lookups.specs.NamePlaces.{named_by, token_at};
 
 use crate::name_places::{Sought, find_names};
 use std::alloc::Global;
-use x_declared::definitions;
 use x_lex::Token;
 use x_names::{Declarer, Names};
-use x_session::Session;
+use x_session::{Session, definitions};
 use x_text::NoMemory;
 
 /// The names that a text declares.

@@ -15,7 +15,7 @@ use Rattle.x_text.specs.declared.text.fault.TextFault.{TextFault}
 use Rattle.x_text.specs.declared.text.fault.TextFault.TheVariants as faults
 use Rattle.x_text.specs.Limits.{most_text}
 use Rattle.x_explain.specs.Explained.{AreExplained}
-use Rattle.x_declared.specs.Foreign.{ForeignName}
+use Rattle.x_session.specs.Foreign.{ForeignName}
 use Rattle.x_explain.specs.KnownFiles.{KnownPlaces, no_places}
 use Rattle.x_prelude.specs.Foreign.{AreForeign}
 use Rattle.x_args.specs.BaseNames.{base_of}

@@ -10,7 +10,7 @@ use Rattle.x_compile.specs.Compile.{Item, definitions_of}
 use Rattle.x_compile.specs.Known.{KnownText, known_names}
 use Rattle.x_rules.specs.Results.{KnownNames}
 use Rattle.x_session.specs.Session.{Compiles, Document}
-use Rattle.x_declared.proofs.DeclaredLemmas.{of_each}
+use Rattle.x_session.proofs.DeclaredLemmas.{of_each}
 use Rattle.x_prelude.specs.Before.{IsBefore, IsCrowded, IsKnownOf, IsOpenBy, IsOpenOver, IsPrelude, StandsBefore}
 use Rattle.x_prelude.specs.Before.{by_files, by_names}
 use Rattle.x_prelude.specs.CTypes.{c_types}

@@ -21,8 +21,8 @@ use Rattle.x_rules.specs.Views.{View, Earlier}
 use Rattle.x_compile.specs.Compile.{IsCompilation, Item, definition_at, definitions_of, parsed_definition}
 use Rattle.x_compile.specs.Known.{KnownText, known_definitions, known_names}
 use Rattle.x_session.specs.Session.{Compiles}
-use Rattle.x_declared.proofs.DeclaredLemmas.{of_each}
-use Rattle.x_declared.proofs.ItemsLeft.{item_at}
+use Rattle.x_session.proofs.DeclaredLemmas.{of_each}
+use Rattle.x_session.proofs.ItemsLeft.{item_at}
 use Rattle.x_prelude.specs.Lacking.{Occurrence, are_lacking, is_lacking, occurrences_from, occurrences_in}
 use Rattle.x_prelude.specs.LackingTable.{HasNames, occurrence}
 use Rattle.x_prelude.specs.declared.lacking.LackingNames.{LackingNames}

@@ -22,9 +22,9 @@ use Rattle.x_rules.specs.Results.{KnownNames}
 use Rattle.x_compile.specs.Compile.{Item, definitions_of, tokens_of}
 use Rattle.x_compile.specs.Known.{KnownText}
 use Rattle.x_session.specs.Session.{Compiles}
-use Rattle.x_declared.specs.DeclaredNames.{spot_at, word_of_item}
-use Rattle.x_declared.specs.declared.declared.Spot.{Spot}
-use Rattle.x_declared.proofs.DeclaredLemmas.{of_each, short_each}
+use Rattle.x_session.specs.DeclaredNames.{spot_at, word_of_item}
+use Rattle.x_session.specs.declared.declared.Spot.{Spot}
+use Rattle.x_session.proofs.DeclaredLemmas.{of_each, short_each}
 use Rattle.x_prelude.specs.Lacking.{Occurrence, are_lacking, is_lacking, name_of, occurrences_from}
 use Rattle.x_prelude.specs.Lacking.{occurrences_in}
 use Rattle.x_prelude.specs.Leading.{AreLed, IsForeignUseBy, declared, declaring, declaring_all, declaring_used}

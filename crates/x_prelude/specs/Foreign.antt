@@ -4,9 +4,9 @@ use Rattle.std.specs.List.{flat_map}
 use Rattle.x_compile.specs.Compile.{Item, definitions_of}
 use Rattle.x_compile.specs.Known.{KnownText, known_names}
 use Rattle.x_rules.specs.Results.{KnownNames}
-use Rattle.x_declared.specs.DeclaredNames.{spot_at, word_of_item}
-use Rattle.x_declared.specs.Foreign.{ForeignName}
-use Rattle.x_declared.specs.declared.declared.Spot.{Spot}
+use Rattle.x_session.specs.DeclaredNames.{spot_at, word_of_item}
+use Rattle.x_session.specs.Foreign.{ForeignName}
+use Rattle.x_session.specs.declared.declared.Spot.{Spot}
 use Rattle.x_prelude.specs.Before.{IsKnownOf}
 use Rattle.x_prelude.specs.Lacking.{Occurrence, first_of_each, lacking, name_of}
 use Rattle.x_prelude.specs.Prelude.{is_type}

@@ -10,7 +10,7 @@ use Rattle.x_names.specs.declared.names.Declarer.{Declarer}
 use Rattle.x_rules.specs.Results.{KnownNames}
 use Rattle.x_compile.specs.Compile.{Item, definitions_of}
 use Rattle.x_compile.specs.Known.{KnownText, known_names}
-use Rattle.x_declared.specs.declared.declared.Spot.{Spot}
+use Rattle.x_session.specs.declared.declared.Spot.{Spot}
 use Rattle.x_prelude.specs.Before.{IsKnownOf}
 use Rattle.x_prelude.specs.Foreign.{spot_of}
 use Rattle.x_prelude.specs.Lacking.{Occurrence, lacking, name_of}

@@ -4,7 +4,7 @@ ghost use Rattle.std.specs.Prelude.{◌≡◌, ◌⊎◌, ◌<◌, length, IfOk,
 ghost use Rattle.x_text.specs.Edits.{change_of, edited_by, Judges};
 ghost use Rattle.x_text.specs.Limits.{most_text};
 ghost use Rattle.x_session.specs.Session.{Compiles};
-ghost use Rattle.x_declared.specs.Foreign.{view_all};
+ghost use Rattle.x_session.specs.Foreign.{view_all};
 ghost use Rattle.x_prelude.specs.Before.{IsBefore, IsCrowded, IsPrelude};
 ghost use Rattle.x_prelude.specs.Followed.{IsOver};
 ghost use Rattle.x_prelude.specs.Foreign.{AreForeign};
@@ -17,9 +17,8 @@ use crate::leading::foreign_use;
 use crate::prelude::prelude_of;
 use std::alloc::Global;
 use x_compile::KnownDefinitions;
-use x_declared::{ForeignName, Spot};
 use x_hash::HashKey;
-use x_session::{EditFault, Session, Work};
+use x_session::{EditFault, ForeignName, Session, Spot, Work};
 use x_text::{Edit, MAX_TEXT, NoMemory, TextFault};
 
 /// A text that stays open over what stands before it: the text of known files, and then the definitions that

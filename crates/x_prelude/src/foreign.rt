@@ -5,8 +5,8 @@ ghost use Rattle.std.specs.List.{flat_map};
 ghost use Rattle.x_compile.specs.Compile.{Item};
 ghost use Rattle.x_compile.specs.Known.{known_names};
 ghost use Rattle.x_session.specs.Session.{Compiles};
-ghost use Rattle.x_declared.specs.DeclaredNames.{IsTableOf};
-ghost use Rattle.x_declared.specs.Foreign.{view_all};
+ghost use Rattle.x_session.specs.DeclaredNames.{IsTableOf};
+ghost use Rattle.x_session.specs.Foreign.{view_all};
 ghost use Rattle.x_prelude.specs.Foreign.{AreForeign, foreign_at, foreign_names};
 ghost use Rattle.x_prelude.specs.Lacking.{Occurrence, first_of_each};
 ghost use Rattle.x_prelude.specs.LackingTable.{HasNames, view_use};
@@ -16,8 +16,7 @@ use crate::definition::{FromC, is_type};
 use crate::lacking::{FirstUse, LackingNames, lacking};
 use std::alloc::Global;
 use x_compile::KnownDefinitions;
-use x_declared::{DeclaredNames, ForeignName};
-use x_session::Session;
+use x_session::{DeclaredNames, ForeignName, Session};
 use x_text::NoMemory;
 
 /// The names that a text takes from C behind the text of known files, each where it uses it first, in the

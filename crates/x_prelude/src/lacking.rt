@@ -12,10 +12,9 @@ ghost use Rattle.x_prelude.specs.LackingTable.{HasFirsts, HasNames, HasTags, occ
 use indexmap::IndexMap;
 use std::alloc::Global;
 use x_compile::KnownDefinitions;
-use x_declared::names;
 use x_hash::{HashKey, KeyedTable};
 use x_names::{Names, is_beforehand};
-use x_session::Session;
+use x_session::{Session, names};
 use x_text::NoMemory;
 use x_trees::{Glossary, Mention, Tag};
 

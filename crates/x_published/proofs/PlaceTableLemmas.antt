@@ -9,11 +9,11 @@ use Rattle.x_compile.specs.Compile.{IsCompilation, Item, definitions_of}
 use Rattle.x_compile.specs.declared.fault.FaultCode.{FaultCode}
 use Rattle.x_compile.specs.Known.{KnownText}
 use Rattle.x_session.specs.Session.{Compiles}
-use Rattle.x_declared.specs.declared.declared.FirstPlace.{FirstPlace}
+use Rattle.x_session.specs.declared.declared.FirstPlace.{FirstPlace}
 use Rattle.x_explain.specs.declared.facts.FaultNames.{FaultNames}
-use Rattle.x_declared.specs.DeclaredNames.{declared_at, definition_of, first_place, first_place_by, spot_at, word_at}
+use Rattle.x_session.specs.DeclaredNames.{declared_at, definition_of, first_place, first_place_by, spot_at, word_at}
 use Rattle.x_explain.specs.Facts.{AreNamesOf, name_of}
-use Rattle.x_declared.proofs.DeclaredLemmas.{of_each}
+use Rattle.x_session.proofs.DeclaredLemmas.{of_each}
 use Rattle.x_positions.specs.declared.range.Range.{Range}
 use Rattle.x_positions.specs.declared.encoding.Encoding.{Encoding}
 use Rattle.x_published.specs.Diagnostics.{IsRangeAt, declared_elsewhere, is_of_declarer, other_place}

@@ -16,9 +16,9 @@ use Rattle.x_compile.specs.Compile.{Item}
 use Rattle.x_compile.specs.Faults.{fault_text}
 use Rattle.x_directives.specs.Conditionals.{conditionals}
 use Rattle.x_directives.specs.declared.conditions.Conditional.{Conditional}
-use Rattle.x_declared.specs.DeclaredNames.{definition_of}
+use Rattle.x_session.specs.DeclaredNames.{definition_of}
 use Rattle.x_explain.specs.Facts.{name_of}
-use Rattle.x_declared.specs.Foreign.{ForeignName}
+use Rattle.x_session.specs.Foreign.{ForeignName}
 use Rattle.x_explain.specs.Found.{IsEndOfToken}
 use Rattle.x_positions.specs.declared.range.Range.{Range}
 use Rattle.x_published.specs.declared.client.Client.{Client}

@@ -3,7 +3,7 @@
 ghost use Rattle.std.specs.Prelude.{◌≡◌, ℕ, IfOk, List, option_map};
 ghost use Rattle.x_lex.specs.declared.kind.Kind.{Kind};
 ghost use Rattle.x_compile.specs.Compile.{IsCompilation, Item};
-ghost use Rattle.x_declared.specs.DeclaredNames.{definition_of};
+ghost use Rattle.x_session.specs.DeclaredNames.{definition_of};
 ghost use Rattle.x_explain.specs.Facts.{AreNamesOf};
 ghost use Rattle.x_published.specs.Diagnostics.{IsRangeAt, declared_elsewhere, is_of_declarer, other_place};
 ghost use Rattle.x_published.specs.OtherPlaces.{AreOfText, is_unknown, says_name};

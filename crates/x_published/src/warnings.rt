@@ -14,9 +14,9 @@ use crate::client::Client;
 use crate::published::{Diagnostic, Message, Severity, place_of};
 use itoa::Buffer;
 use std::alloc::{AllocError, Global};
-use x_declared::Spot;
 use x_explain::token_end;
 use x_positions::{Range, Waymarks};
+use x_session::Spot;
 use x_warnings::{OtherMeaning, Warning, kind_text};
 
 /// What is published of a name that clashes in C, at its word in a text that is shown: nothing where the word

@@ -12,12 +12,11 @@ use crate::open_text::OpenText;
 use serde_json::{Value, json};
 use std::alloc::Global;
 use std::str;
-use x_declared::definitions;
 use x_frames::PlainList;
 use x_item::{DeclaredName, Definition, Glossary, NameKind};
 use x_lookups::{Expected, expected_at};
 use x_names::Names;
-use x_session::Session;
+use x_session::{Session, definitions};
 use x_text::NoMemory;
 
 /// The kinds of `CompletionItem`s.

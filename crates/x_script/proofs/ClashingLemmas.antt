@@ -7,7 +7,7 @@ use Rattle.x_streams.specs.Writing.{Inked, Adds}
 use Rattle.x_streams.proofs.Pens.{adds_trans}
 use Rattle.x_compile.specs.Compile.{faults_of}
 use Rattle.x_compile.specs.Known.{KnownText}
-use Rattle.x_declared.proofs.DeclaredLemmas.{of_each}
+use Rattle.x_session.proofs.DeclaredLemmas.{of_each}
 use Rattle.x_session.specs.Session.{Compiles}
 use Rattle.x_prelude.specs.Before.{IsBefore}
 use Rattle.x_warnings.specs.WarningLines.{warning_line}

@@ -7,8 +7,8 @@ use Rattle.x_compile.specs.Compile.{faults_of}
 use Rattle.x_compile.specs.Known.{KnownText}
 use Rattle.x_compile.proofs.Compiled.{one_compilation}
 use Rattle.x_explain.specs.Explained.{AreExplained}
-use Rattle.x_declared.specs.Foreign.{ForeignName}
-use Rattle.x_declared.proofs.DeclaredLemmas.{of_each}
+use Rattle.x_session.specs.Foreign.{ForeignName}
+use Rattle.x_session.proofs.DeclaredLemmas.{of_each}
 use Rattle.x_session.specs.Session.{Compiles}
 use Rattle.x_prelude.specs.Before.{IsBefore}
 use Rattle.x_prelude.specs.Foreign.{AreForeign}

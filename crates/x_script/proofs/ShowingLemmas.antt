@@ -16,8 +16,8 @@ use Rattle.x_value.specs.declared.fault.ReadCode.TheVariants as codes_of
 use Rattle.x_script.specs.Answers.{Answer, answered, refused, refused_by}
 use Rattle.x_compile.specs.Compile.{Item, faults_of}
 use Rattle.x_compile.specs.Known.{KnownText}
-use Rattle.x_declared.specs.declared.declared.Spot.{Spot}
-use Rattle.x_declared.proofs.DeclaredLemmas.{of_each}
+use Rattle.x_session.specs.declared.declared.Spot.{Spot}
+use Rattle.x_session.proofs.DeclaredLemmas.{of_each}
 use Rattle.x_prelude.specs.Leading.{IsForeignUse}
 use Rattle.x_script.specs.LineAnswers.{IsShownBy}
 use Rattle.x_script.specs.LineAnswers as answers

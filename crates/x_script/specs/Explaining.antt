@@ -2,7 +2,7 @@
 use Rattle.std.specs.Prelude.{◌≡◌, ℕ, false, List, ◌++◌, length, codes}
 use Rattle.x_compile.specs.Compile.{Item, faults_of}
 use Rattle.x_explain.specs.Explained.{AreExplained, Telling}
-use Rattle.x_declared.specs.Foreign.{ForeignName}
+use Rattle.x_session.specs.Foreign.{ForeignName}
 use Rattle.x_prelude.specs.Foreign.{AreForeign}
 use Rattle.x_script.specs.Answers.{Answer, answered, counted_line}
 use Rattle.x_script.specs.Situations.{How}

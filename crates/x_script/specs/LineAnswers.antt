@@ -1,6 +1,6 @@
 -- What a line of a script is answered over a text, in one way (`one_answer` of `x_laws`).
 use Rattle.std.specs.Prelude.{◌≡◌, ◌<◌, ◌≤◌, ℕ, true, false, List, [], length, Some, None}
-use Rattle.x_declared.specs.declared.declared.Spot.{Spot}
+use Rattle.x_session.specs.declared.declared.Spot.{Spot}
 use Rattle.x_prelude.specs.Leading.{IsForeignUse}
 use Rattle.x_script.specs.Answers.{Answer, answer, refused, refused_by}
 use Rattle.x_script.specs.Clashing.{IsClashAnswer}

@@ -1,7 +1,7 @@
 -- Why a line of a script is refused, and what is answered then.
 use Rattle.std.specs.Prelude.{ℕ, List, ◌++◌, codes}
 use Rattle.std.specs.Fmt.{decimal}
-use Rattle.x_declared.specs.declared.declared.Spot.{Spot}
+use Rattle.x_session.specs.declared.declared.Spot.{Spot}
 use Rattle.x_script.specs.declared.script.refusal.LineRefusal.{LineRefusal}
 use Rattle.x_script.specs.declared.script.refusal.LineRefusal.TheVariants as refusals
 

@@ -12,11 +12,10 @@ ghost use Rattle.x_told.specs.Telling.{is_of_faulty, is_repeat, is_told_where, t
 ghost use Rattle.x_told.specs.Voices.{heard_with, is_of_branch_by, is_silent_voice, voice_at};
 
 use std::alloc::Global;
-use x_declared::names;
 use x_directives::LaterBranches;
 use x_explain::{fault_places, token_end};
 use x_names::Names;
-use x_session::{FaultCode, FaultPlace, RuleCode, Session};
+use x_session::{FaultCode, FaultPlace, RuleCode, Session, names};
 use x_text::NoMemory;
 
 /// What is told of the faults of an item so far.

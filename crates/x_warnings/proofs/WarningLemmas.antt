@@ -12,9 +12,9 @@ use Rattle.x_names.specs.Declarers.{AreShort}
 use Rattle.x_compile.specs.Compile.{Item, definitions_of, tokens_of}
 use Rattle.x_compile.specs.Known.{KnownText}
 use Rattle.x_session.specs.Session.{Compiles}
-use Rattle.x_declared.specs.DeclaredNames.{IsTableOf}
-use Rattle.x_declared.specs.declared.declared.DeclaredNames.{DeclaredNames}
-use Rattle.x_declared.proofs.DeclaredLemmas.{of_each, short_each, word_items}
+use Rattle.x_session.specs.DeclaredNames.{IsTableOf}
+use Rattle.x_session.specs.declared.declared.DeclaredNames.{DeclaredNames}
+use Rattle.x_session.proofs.DeclaredLemmas.{of_each, short_each, word_items}
 use Rattle.x_taken.specs.TakenNames.{taken_as}
 use Rattle.x_taken.specs.declared.taken.TakenAs.{TakenAs}
 use Rattle.x_clash.specs.Clashes.{AreClashes}

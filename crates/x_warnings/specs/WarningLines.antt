@@ -1,7 +1,7 @@
 -- The lines that tell the names of a file's text that clash in C.
 use Rattle.std.specs.Prelude.{ℕ, List, [], ◌++◌, codes, Option, None, Some}
 use Rattle.std.specs.Fmt.{decimal}
-use Rattle.x_declared.specs.declared.declared.Spot.{Spot}
+use Rattle.x_session.specs.declared.declared.Spot.{Spot}
 use Rattle.x_taken.specs.declared.taken.TakenAs.{TakenAs}
 use Rattle.x_taken.specs.declared.taken.TakenAs.TheVariants as taken
 use Rattle.x_warnings.specs.declared.warning.OtherMeaning.{OtherMeaning}

@@ -2,9 +2,9 @@
 use Rattle.std.specs.Prelude.{◌≡◌, ℕ, List, [], Option, map, option_map}
 use Rattle.std.specs.Cow.{cow_slice_items}
 use Rattle.x_compile.specs.Compile.{Item, definitions_of}
-use Rattle.x_declared.specs.DeclaredNames.{spot_at, word_of_item, word_spot}
-use Rattle.x_declared.specs.declared.declared.DeclaredNames.{DeclaredNames}
-use Rattle.x_declared.specs.declared.declared.Spot.{Spot}
+use Rattle.x_session.specs.DeclaredNames.{spot_at, word_of_item, word_spot}
+use Rattle.x_session.specs.declared.declared.DeclaredNames.{DeclaredNames}
+use Rattle.x_session.specs.declared.declared.Spot.{Spot}
 use Rattle.x_taken.specs.TakenNames.{taken_as}
 use Rattle.x_clash.specs.Clashes.{AreClashes}
 use Rattle.x_clash.specs.declared.clash.Clash.{Clash}

@@ -7,8 +7,7 @@ ghost use Rattle.x_warnings.specs.Warnings.{AreWarnings, other_of, spots_in, vie
 use crate::warning::{OtherMeaning, Warning};
 use std::alloc::Global;
 use x_clash::{Clash, Rival, clashes};
-use x_declared::{DeclaredNames, definitions};
-use x_session::Session;
+use x_session::{DeclaredNames, Session, definitions};
 use x_taken::Taken;
 use x_text::NoMemory;
 

@@ -8,7 +8,7 @@ ghost use Rattle.x_warnings.specs.WarningLines.{spot_text, warning_line};
 ghost use Rattle.x_warnings.specs.Warnings.{view_warning};
 
 use crate::warning::{OtherMeaning, Warning};
-use x_declared::Spot;
+use x_session::Spot;
 use x_taken::TakenAs;
 use x_text::{Pen, Sink};
 use x_value::add_number;

@@ -1,7 +1,7 @@
 //! A name that clashes in C, at its places in a text.
 
 use std::borrow::CowSlice;
-use x_declared::Spot;
+use x_session::Spot;
 use x_taken::TakenAs;
 
 /// What else has a name.

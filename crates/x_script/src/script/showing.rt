@@ -20,9 +20,8 @@ use super::command::message_bytes;
 use super::refusal::LineRefusal;
 use super::{ScriptFile, renew};
 use std::alloc::Global;
-use x_declared::Spot;
 use x_prelude::FollowedText;
-use x_session::{Schema, SchemaFault, Session, TypeId};
+use x_session::{Schema, SchemaFault, Session, Spot, TypeId};
 use x_text::{NoMemory, Pen, Sink};
 use x_value::{Dump, ReadCode, add_number, dump};
 

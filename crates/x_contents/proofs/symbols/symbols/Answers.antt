@@ -1,7 +1,7 @@
 use Rattle.std.proofs.Common.{◌≡◌, ◌+◌, ◌∙◌, ap, map, refl, subst, sym}
 use Rattle.x_lex.specs.Places.{lexeme}
 use Rattle.x_trees.specs.View.{tree_at}
-use Rattle.x_declared.proofs.ItemWalking.{HasWalked, walked_all, walked_item, walked_none}
+use Rattle.x_session.proofs.ItemWalking.{HasWalked, walked_all, walked_item, walked_none}
 use Rattle.x_frames.specs.ListTexts.{ended}
 use Rattle.x_contents.specs.Symbols.{token_range}
 use Rattle.x_contents.specs.SymbolTexts.{no_text, with_text}

@@ -1,5 +1,5 @@
 use Rattle.std.proofs.Common.{◌≡◌}
-use Rattle.x_declared.proofs.ItemWalking.{HasWalked}
+use Rattle.x_session.proofs.ItemWalking.{HasWalked}
 use Rattle.x_contents.specs.SymbolTexts.{no_text}
 use Rattle.x_contents.proofs.SymbolLemmas.{item_text}
 use Rattle.x_contents.proofs.symbols.symbols.Given as goal

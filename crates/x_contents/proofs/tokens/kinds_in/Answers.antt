@@ -4,8 +4,8 @@ use Rattle.x_lex.specs.Places.{lexeme}
 use Rattle.x_trees.specs.Spell.{spell}
 use Rattle.x_trees.specs.View.{tree_at, view_definition}
 use Rattle.x_names.specs.DeclarerTable.{first_in}
-use Rattle.x_declared.specs.DeclaredNames.{words_in}
-use Rattle.x_declared.proofs.ItemsLeft.{short_definition}
+use Rattle.x_session.specs.DeclaredNames.{words_in}
+use Rattle.x_session.proofs.ItemsLeft.{short_definition}
 use Rattle.x_contents.specs.TokenKinds.{kinds_in}
 use Rattle.x_contents.proofs.TokenLemmas.{fewer_words}
 use Rattle.x_contents.proofs.tokens.kinds_in.Goals as goal

@@ -1,7 +1,7 @@
 use Rattle.std.proofs.Common.{ap, ◌∙◌}
 use Rattle.serde_json.specs.Written.{compact_text}
 use Rattle.x_names.specs.DeclarerTable.{first_in}
-use Rattle.x_declared.specs.ItemWalks.{over_items}
+use Rattle.x_session.specs.ItemWalks.{over_items}
 use Rattle.x_positions.specs.Positions.{EncodedText}
 use Rattle.x_contents.specs.Reading.{told_of}
 use Rattle.x_contents.specs.Tokens.{tokens_data, with_item}

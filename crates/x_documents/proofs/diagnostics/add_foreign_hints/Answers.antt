@@ -4,7 +4,7 @@ use Rattle.std.specs.Prelude.{None, string_bytes}
 use Rattle.std.proofs.lemmas.List.{take_all}
 use Rattle.x_compile.specs.Faults.{fault_text}
 use Rattle.x_compile.specs.declared.fault.FaultCode.TheVariants.{Rule}
-use Rattle.x_declared.specs.Foreign.{view_all}
+use Rattle.x_session.specs.Foreign.{view_all}
 use Rattle.x_rules.specs.declared.fault.RuleCode.TheVariants.{Unknown}
 use Rattle.x_published.specs.Diagnostics.{AreForeignHints, diagnostic_data, fault_number}
 use Rattle.x_positions.specs.PositionData.{range_data}

@@ -1,6 +1,6 @@
 use Rattle.std.proofs.Common.{◌≡◌, ◌++◌, List, map, take}
 use Rattle.serde_json.specs.Data.{Data}
-use Rattle.x_declared.specs.Foreign.{view_all}
+use Rattle.x_session.specs.Foreign.{view_all}
 use Rattle.x_published.specs.Diagnostics.{AreForeignHints}
 use Rattle.x_published.specs.Published.{data_of}
 use Rattle.x_documents.proofs.diagnostics.add_foreign_hints.Given as goal

@@ -2,8 +2,8 @@ use Rattle.std.proofs.Common.{◌≡◌, ◌++◌, ◌∙◌, append-nil, ap, ma
 use Rattle.std.specs.Prelude.{All}
 use Rattle.serde_json.specs.Written.{compact_text}
 use Rattle.std.proofs.lemmas.Int.{to_z-of_z}
-use Rattle.x_declared.specs.Foreign.{view_all}
-use Rattle.x_declared.proofs.DeclaredLemmas.{of_each}
+use Rattle.x_session.specs.Foreign.{view_all}
+use Rattle.x_session.proofs.DeclaredLemmas.{of_each}
 use Rattle.x_published.specs.Diagnostics.{AreForeignHints, hints_of, published_data}
 use Rattle.x_published.specs.Published.{data_of}
 use Rattle.x_positions.specs.Waymarks.{IsWaymark}

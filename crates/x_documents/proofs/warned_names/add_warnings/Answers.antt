@@ -1,6 +1,6 @@
 use Rattle.std.proofs.Common.{◌≡◌, ◌∙◌, [], ap, append-nil, length, map, refl, subst, sym, true, false}
 use Rattle.x_compile.specs.Compile.{faults_of}
-use Rattle.x_declared.proofs.DeclaredLemmas.{of_each}
+use Rattle.x_session.proofs.DeclaredLemmas.{of_each}
 use Rattle.x_warnings.specs.Warnings.{view_warning}
 use Rattle.x_published.specs.Published.{data_of}
 use Rattle.x_published.specs.Warned.{AreWarned}

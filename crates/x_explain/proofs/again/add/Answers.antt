@@ -4,7 +4,7 @@ use Rattle.x_lists.proofs.ListLemmas.{before_last}
 use Rattle.x_trees.specs.Collected.{view_name}
 use Rattle.x_explain.specs.AgainNames.{again_among, at_start, entry_at, name_at, start_again}
 use Rattle.x_explain.proofs.AgainLemmas.{name_before}
-use Rattle.x_declared.proofs.DeclaredLemmas.{map-snoc}
+use Rattle.x_session.proofs.DeclaredLemmas.{map-snoc}
 use Rattle.x_explain.proofs.again.add.Goals as goal
 
 pub loop-name-preserved : goal.loop-name-preserved

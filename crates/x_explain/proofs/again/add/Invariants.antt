@@ -2,7 +2,7 @@ use Rattle.std.proofs.Common.{◌≡◌, ℕ, List, length, map, take, drop}
 use Rattle.std.specs.Option.{option_or}
 use Rattle.x_trees.specs.Collected.{view_name}
 use Rattle.x_compile.specs.Compile.{Item}
-use Rattle.x_declared.specs.DeclaredNames.{IsTableOf}
+use Rattle.x_session.specs.DeclaredNames.{IsTableOf}
 use Rattle.x_explain.specs.AgainNames.{again_among, entry_at, name_at}
 use Rattle.x_explain.proofs.again.add.Given as goal
 

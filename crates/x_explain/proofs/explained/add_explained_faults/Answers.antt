@@ -9,8 +9,8 @@ use Rattle.x_compile.proofs.FaultLemmas.{places_many}
 use Rattle.x_explain.specs.declared.explained.Pass.TheVariants.{Errors, Notes}
 use Rattle.x_explain.specs.Explained.{IsPass, Telling, explanation, foreign_line, notes_at, said_by, summary}
 use Rattle.x_explain.specs.Facts.{before_in, foreign_in, near_in}
-use Rattle.x_declared.specs.Foreign.{view_all, view_foreign}
-use Rattle.x_declared.proofs.DeclaredLemmas.{of_each}
+use Rattle.x_session.specs.Foreign.{view_all, view_foreign}
+use Rattle.x_session.proofs.DeclaredLemmas.{of_each}
 use Rattle.x_explain.proofs.explained.add_explained_faults.Goals as goal
 
 pub overflow_sub-caused : goal.overflow_sub-caused

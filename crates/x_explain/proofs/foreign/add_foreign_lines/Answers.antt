@@ -4,7 +4,7 @@ use Rattle.std.proofs.lemmas.List.{drop_all}
 use Rattle.x_streams.specs.Writing.{Adds}
 use Rattle.x_streams.proofs.Pens.{adds_none}
 use Rattle.x_explain.specs.Explained.{foreign_line}
-use Rattle.x_declared.specs.Foreign.{view_all}
+use Rattle.x_session.specs.Foreign.{view_all}
 use Rattle.x_explain.proofs.ForeignLemmas.{line_more}
 use Rattle.x_explain.proofs.foreign.add_foreign_lines.Goals as goal
 

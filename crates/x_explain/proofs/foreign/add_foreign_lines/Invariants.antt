@@ -3,7 +3,7 @@ use Rattle.std.specs.List.{flat_map}
 use Rattle.x_streams.specs.Streams.{Stream}
 use Rattle.x_streams.specs.Writing.{Adds, Inked}
 use Rattle.x_explain.specs.Explained.{foreign_line}
-use Rattle.x_declared.specs.Foreign.{view_all}
+use Rattle.x_session.specs.Foreign.{view_all}
 use Rattle.x_explain.proofs.foreign.add_foreign_lines.Given as goal
 
 -- what comes of adding the lines that are left is what comes of adding all

@@ -3,7 +3,7 @@ use Rattle.x_trees.specs.View.{tree_at}
 use Rattle.x_names.specs.Declarers.{AreShort}
 use Rattle.x_compile.specs.Compile.{tokens_of}
 use Rattle.x_explain.specs.Suggestions.{compared}
-use Rattle.x_declared.proofs.DeclaredLemmas.{of_each, ok_then, short_each}
+use Rattle.x_session.proofs.DeclaredLemmas.{of_each, ok_then, short_each}
 use Rattle.x_explain.proofs.suggestions.compared_names.Goals as goal
 
 pub returns : goal.returns

@@ -2,7 +2,7 @@ use Rattle.std.proofs.Common.{◌∙◌, subst}
 use Rattle.x_compile.specs.Compile.{places_of}
 use Rattle.x_explain.specs.Found.{AreFound}
 use Rattle.x_explain.specs.Suggestions.{sought}
-use Rattle.x_declared.proofs.DeclaredLemmas.{ok_then}
+use Rattle.x_session.proofs.DeclaredLemmas.{ok_then}
 use Rattle.x_explain.proofs.suggestions.unknown_words.Goals as goal
 
 pub returns : goal.returns

@@ -5,7 +5,7 @@ use Rattle.x_trees.specs.Collected.{view_mention, view_name}
 use Rattle.x_trees.specs.Spell.{spell}
 use Rattle.x_trees.specs.View.{view_definition}
 use Rattle.x_lookups.specs.Sought.{is_sought}
-use Rattle.x_declared.proofs.ItemsLeft.{short_definition}
+use Rattle.x_session.proofs.ItemsLeft.{short_definition}
 use Rattle.x_lookups.proofs.NamePlaceLemmas.{names_added}
 use Rattle.x_lookups.proofs.name_places.add_names.Goals as goal
 

@@ -4,7 +4,7 @@ use Rattle.x_lex.specs.Places.{lexeme}
 use Rattle.x_trees.specs.View.{tree_at, view_definition}
 use Rattle.x_lookups.specs.NamePlaces.{names_by, tokens_where}
 use Rattle.x_lookups.specs.Sought.{is_sought}
-use Rattle.x_declared.proofs.ItemWalking.{HasWalked, walked_item, walked_none}
+use Rattle.x_session.proofs.ItemWalking.{HasWalked, walked_item, walked_none}
 use Rattle.x_lookups.proofs.NamePlaceLemmas.{found_all, found_by, names_without}
 use Rattle.x_lookups.proofs.name_places.find_names.Goals as goal
 use Rattle.x_lookups.proofs.name_places.find_names.Goals.{in-Some+in_ok-add_names, in_default}

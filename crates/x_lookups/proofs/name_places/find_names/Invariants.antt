@@ -1,7 +1,7 @@
 use Rattle.std.proofs.Common.{[], map}
 use Rattle.x_lex.specs.Places.{lexeme}
 use Rattle.x_lookups.specs.Sought.{is_sought}
-use Rattle.x_declared.proofs.ItemWalking.{HasWalked}
+use Rattle.x_session.proofs.ItemWalking.{HasWalked}
 use Rattle.x_lookups.proofs.NamePlaceLemmas.{found_by}
 use Rattle.x_lookups.proofs.name_places.find_names.Given as goal
 

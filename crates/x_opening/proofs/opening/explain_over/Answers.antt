@@ -2,7 +2,7 @@ use Rattle.std.proofs.Common.{[], sym, subst}
 use Rattle.x_streams.specs.Writing.{Inked, Writes}
 use Rattle.x_streams.proofs.Pens.{writes_none}
 use Rattle.x_explain.specs.Facts.{before_in, foreign_in}
-use Rattle.x_declared.proofs.DeclaredLemmas.{of_each}
+use Rattle.x_session.proofs.DeclaredLemmas.{of_each}
 use Rattle.x_prelude.specs.Foreign.{AreForeign}
 use Rattle.x_session.specs.Session.{Compiles}
 use Rattle.x_explain.specs.KnownFiles.{no_places}

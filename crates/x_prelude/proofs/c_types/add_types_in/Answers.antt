@@ -2,7 +2,7 @@ use Rattle.std.proofs.Common.{◌≡◌, suc, ◌+◌, ◌++◌, arith, subst, �
 use Rattle.x_compile.specs.Compile.{definitions_of}
 use Rattle.x_compile.specs.Known.{known_names}
 use Rattle.x_session.specs.Session.{Compiles}
-use Rattle.x_declared.proofs.DeclaredLemmas.{of_each}
+use Rattle.x_session.proofs.DeclaredLemmas.{of_each}
 use Rattle.x_prelude.specs.Prelude.{lacks_name, type_text}
 use Rattle.x_prelude.proofs.TypeLemmas.{all_types, types_more}
 use Rattle.x_prelude.proofs.c_types.add_types_in.Goals as goal

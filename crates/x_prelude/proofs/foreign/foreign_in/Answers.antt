@@ -2,7 +2,7 @@ use Rattle.std.proofs.Common.{◌∙◌}
 use Rattle.std.specs.List.{flat_map}
 use Rattle.x_compile.specs.Compile.{definitions_of}
 use Rattle.x_compile.specs.Known.{known_names}
-use Rattle.x_declared.proofs.DeclaredLemmas.{of_each, ok_then}
+use Rattle.x_session.proofs.DeclaredLemmas.{of_each, ok_then}
 use Rattle.x_prelude.specs.Foreign.{foreign_at}
 use Rattle.x_prelude.specs.Lacking.{first_of_each, lacking}
 use Rattle.x_prelude.proofs.ForeignLemmas.{if_taken}

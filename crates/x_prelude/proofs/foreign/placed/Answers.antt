@@ -1,7 +1,7 @@
 use Rattle.std.proofs.Common.{◌≡◌, ◌++◌, map, ap, ◌∙◌}
 use Rattle.std.specs.List.{flat_map}
 use Rattle.std.proofs.lemmas.Simd.{map-map}
-use Rattle.x_declared.specs.Foreign.{view_foreign}
+use Rattle.x_session.specs.Foreign.{view_foreign}
 use Rattle.x_prelude.specs.Foreign.{foreign_at}
 use Rattle.x_prelude.specs.Lacking.{first_of_each}
 use Rattle.x_prelude.specs.LackingTable.{view_use}

@@ -1,8 +1,8 @@
 use Rattle.std.proofs.Common.{◌≡◌, ℕ, List, ◌++◌, map}
 use Rattle.std.specs.List.{flat_map}
 use Rattle.x_compile.specs.Compile.{Item}
-use Rattle.x_declared.specs.DeclaredNames.{IsTableOf}
-use Rattle.x_declared.specs.Foreign.{view_all}
+use Rattle.x_session.specs.DeclaredNames.{IsTableOf}
+use Rattle.x_session.specs.Foreign.{view_all}
 use Rattle.x_prelude.specs.Foreign.{foreign_at}
 use Rattle.x_prelude.specs.Lacking.{Occurrence, first_of_each}
 use Rattle.x_prelude.specs.LackingTable.{HasNames, view_use}

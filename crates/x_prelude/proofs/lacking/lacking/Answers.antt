@@ -6,7 +6,7 @@ use Rattle.x_names.specs.DeclarerTable.{first_in}
 use Rattle.x_compile.specs.Compile.{definition_at, definitions_of}
 use Rattle.x_compile.specs.Known.{known_names}
 use Rattle.x_session.specs.Session.{Compiles}
-use Rattle.x_declared.proofs.DeclaredLemmas.{none_is, short_at}
+use Rattle.x_session.proofs.DeclaredLemmas.{none_is, short_at}
 use Rattle.x_prelude.specs.Lacking.{are_lacking, occurrences_from, occurrences_in}
 use Rattle.x_prelude.specs.LackingTable.{HasNames, occurrence}
 use Rattle.x_prelude.proofs.LackingLemmas.{item_more, nothing_more, uses_are}

@@ -2,7 +2,7 @@ use Rattle.std.proofs.Common.{◌≡◌, ◌∷◌, ◌++◌, [], false, is_some
 use Rattle.std.specs.Map.{lookup}
 use Rattle.std.specs.Str.{bytes_eq}
 use Rattle.indexmap.proofs.CallerLemmas.{insert_entry-new}
-use Rattle.x_declared.proofs.DeclaredLemmas.{none_is}
+use Rattle.x_session.proofs.DeclaredLemmas.{none_is}
 use Rattle.x_prelude.specs.LackingTable.{HasTags, occurrence}
 use Rattle.x_prelude.proofs.FirstLemmas.{new_tag, no_entry, no_tag, old_tag}
 use Rattle.x_prelude.proofs.lacking.note_tag.Goals as goal

@@ -6,7 +6,7 @@ use Rattle.x_names.specs.DeclarerTable.{first_in}
 use Rattle.x_compile.specs.Compile.{definitions_of}
 use Rattle.x_compile.specs.Known.{known_names}
 use Rattle.x_session.specs.Session.{Compiles}
-use Rattle.x_declared.proofs.DeclaredLemmas.{of_each}
+use Rattle.x_session.proofs.DeclaredLemmas.{of_each}
 use Rattle.x_prelude.specs.Reaching.{AreNamesOf, IsFirstLed}
 use Rattle.x_prelude.proofs.LeadingLemmas.{names_of, none_found, use_found, within_text}
 use Rattle.x_prelude.proofs.leading.foreign_use.Goals as goal

@@ -1,6 +1,6 @@
 use Rattle.std.proofs.Common.{ap, sym, ◌∙◌}
 use Rattle.std.specs.Prelude.{option_map}
-use Rattle.x_declared.specs.declared.declared.FirstPlace.{FirstPlace}
+use Rattle.x_session.specs.declared.declared.FirstPlace.{FirstPlace}
 use Rattle.x_published.proofs.PlaceTableLemmas.{start_found}
 use Rattle.x_published.proofs.other_places.place_in.Goals as goal
 

@@ -1,7 +1,7 @@
 use Rattle.std.proofs.Common.{ap, subst, sym, ◌∙◌}
 use Rattle.std.specs.Prelude.{option_map}
 use Rattle.x_script.specs.Commands.{bytes_of}
-use Rattle.x_declared.proofs.DeclaredLemmas.{none_is}
+use Rattle.x_session.proofs.DeclaredLemmas.{none_is}
 use Rattle.x_script.specs.Giving.{GivesBy}
 use Rattle.x_script.specs.LineAnswers.{IsCommandAnswer}
 use Rattle.x_script.specs.Situations.{situation}

@@ -1,7 +1,7 @@
 use Rattle.std.proofs.Common.{◌≡◌, ◌+◌, ◌-◌, ◌≤◌, ◌∙◌, ap, arith, length}
 use Rattle.std.specs.Prelude.{IfOk}
 use Rattle.std.specs.List.{filter}
-use Rattle.x_declared.proofs.DeclaredLemmas.{ok_then}
+use Rattle.x_session.proofs.DeclaredLemmas.{ok_then}
 use Rattle.x_told.specs.Choosing.{chosen, is_consequence, is_error, left_out, with_first}
 use Rattle.x_told.proofs.ChosenLemmas.{all_chosen, none_lost}
 use Rattle.x_told.proofs.choosing.chosen.Goals as goal

@@ -1,6 +1,6 @@
 use Rattle.std.proofs.Common.{◌∙◌, ap, length, sym}
 use Rattle.x_compile.proofs.FaultLemmas.{places_many}
-use Rattle.x_declared.proofs.DeclaredLemmas.{of_each}
+use Rattle.x_session.proofs.DeclaredLemmas.{of_each}
 use Rattle.x_told.specs.Choosing.{chosen}
 use Rattle.x_told.proofs.choosing.told_first.Goals as goal
 

@@ -3,7 +3,7 @@ use Rattle.std.specs.Prelude.{IfOk}
 use Rattle.std.specs.List.{filter, list_any}
 use Rattle.x_compile.specs.Compile.{places_of}
 use Rattle.x_session.specs.Session.{Compiles}
-use Rattle.x_declared.proofs.DeclaredLemmas.{ok_then}
+use Rattle.x_session.proofs.DeclaredLemmas.{ok_then}
 use Rattle.x_told.specs.Telling.{is_of_branch, is_of_faulty, told_of}
 use Rattle.x_told.proofs.ToldLemmas.{any_of_branch, is_free_by, same_free}
 use Rattle.x_told.proofs.SilentLemmas.{all_free}

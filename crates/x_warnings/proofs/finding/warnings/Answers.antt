@@ -1,6 +1,6 @@
 use Rattle.std.proofs.Common.{◌≡◌, ◌<◌, ◌^◌, ap, map, nat_eq, ◌∙◌, arith}
 use Rattle.x_trees.specs.View.{tree_at}
-use Rattle.x_declared.proofs.DeclaredLemmas.{ok_then}
+use Rattle.x_session.proofs.DeclaredLemmas.{ok_then}
 use Rattle.x_taken.specs.TakenNames.{taken_in}
 use Rattle.x_warnings.specs.Warnings.{view_warning}
 use Rattle.x_warnings.proofs.WarningLemmas.{clashes_are, empty_is, none_are, placed_are}

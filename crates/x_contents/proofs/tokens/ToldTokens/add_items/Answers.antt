@@ -3,7 +3,7 @@ use Rattle.x_item.specs.Parse.{IsParse}
 use Rattle.x_lex.specs.Places.{lexeme}
 use Rattle.x_trees.specs.View.{tree_at}
 use Rattle.x_names.specs.DeclarerTable.{first_in}
-use Rattle.x_declared.proofs.ItemWalking.{walked_all, walked_item, walked_none}
+use Rattle.x_session.proofs.ItemWalking.{walked_all, walked_item, walked_none}
 use Rattle.x_contents.specs.Reading.{told_of}
 use Rattle.x_contents.specs.Tokens.{with_item}
 use Rattle.x_contents.proofs.tokens.ToldTokens.add_items.Goals as goal

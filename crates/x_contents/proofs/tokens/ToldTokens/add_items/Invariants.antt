@@ -1,6 +1,6 @@
 use Rattle.std.proofs.Common.{◌≡◌}
 use Rattle.x_names.specs.DeclarerTable.{first_in}
-use Rattle.x_declared.proofs.ItemWalking.{HasWalked}
+use Rattle.x_session.proofs.ItemWalking.{HasWalked}
 use Rattle.x_contents.specs.Reading.{told_of}
 use Rattle.x_contents.specs.Tokens.{with_item}
 use Rattle.x_contents.proofs.tokens.ToldTokens.add_items.Given as goal

@@ -2,8 +2,8 @@ use Rattle.std.proofs.Common.{◌++◌, List, inl, inr, refl, rules, subst, w64}
 use Rattle.std.proofs.lemmas.Int.{to_z-of_z}
 use Rattle.std.proofs.Math.Logic.{∥∥₁_map₂}
 use Rattle.std.specs.Prelude.{string_bytes}
-use Rattle.x_declared.specs.Foreign.{ForeignName, view_all}
-use Rattle.x_declared.proofs.DeclaredLemmas.{of_each}
+use Rattle.x_session.specs.Foreign.{ForeignName, view_all}
+use Rattle.x_session.proofs.DeclaredLemmas.{of_each}
 use Rattle.x_prelude.specs.Before.{IsBefore}
 use Rattle.x_prelude.specs.Foreign.{AreForeign}
 use Rattle.x_session.specs.Session.{Compiles}

@@ -4,9 +4,9 @@ use Rattle.x_trees.specs.View.{tree_at, view_definition}
 use Rattle.x_compile.specs.Compile.{definition_at}
 use Rattle.x_session.specs.Session.{Compiles}
 use Rattle.x_explain.specs.AgainNames.{again_among, again_from, again_in, entry_at, name_at}
-use Rattle.x_declared.proofs.DeclaredLemmas.{none_is, short_at}
+use Rattle.x_session.proofs.DeclaredLemmas.{none_is, short_at}
 use Rattle.x_explain.proofs.AgainLemmas.{item_before, none_behind}
-use Rattle.x_declared.proofs.DeclaredLemmas.{of_each}
+use Rattle.x_session.proofs.DeclaredLemmas.{of_each}
 use Rattle.x_explain.proofs.again.AgainNames.of.Goals as goal
 
 pub loop-item-init : goal.loop-item-init

@@ -6,7 +6,7 @@ use Rattle.x_explain.specs.declared.found.FoundFault.{FoundFault}
 use Rattle.x_explain.specs.Explained.{Telling}
 use Rattle.x_explain.specs.Facts.{before_in, near_in, view_known}
 use Rattle.x_explain.specs.Found.{IsEndOfToken, IsFound}
-use Rattle.x_declared.proofs.DeclaredLemmas.{of_each}
+use Rattle.x_session.proofs.DeclaredLemmas.{of_each}
 use Rattle.x_explain.proofs.PassLemmas.{HasPassed, passed_all, passed_more, passed_none, said_as, tail_is}
 use Rattle.x_explain.proofs.explained.Telling.add_pass.Goals as goal
 

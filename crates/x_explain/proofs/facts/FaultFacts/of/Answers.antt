@@ -1,4 +1,4 @@
-use Rattle.x_declared.proofs.DeclaredLemmas.{of_each}
+use Rattle.x_session.proofs.DeclaredLemmas.{of_each}
 use Rattle.x_explain.proofs.facts.FaultFacts.of.Goals as goal
 
 pub returns-clause-facts : goal.returns-clause-facts

@@ -2,7 +2,7 @@ use Rattle.std.proofs.Common.{◌≡◌, map, ap, ◌∙◌}
 use Rattle.std.specs.Cow.{cow_slice_items}
 use Rattle.x_compile.specs.Compile.{definitions_of}
 use Rattle.x_explain.specs.Suggestions.{compared, suggested}
-use Rattle.x_declared.proofs.DeclaredLemmas.{of_each}
+use Rattle.x_session.proofs.DeclaredLemmas.{of_each}
 use Rattle.x_explain.proofs.suggestions.Suggestions.of.Goals as goal
 
 pub returns : goal.returns

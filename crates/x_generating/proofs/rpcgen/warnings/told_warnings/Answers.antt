@@ -1,5 +1,5 @@
 use Rattle.std.proofs.Common.{◌∙◌, ap, map, sym}
-use Rattle.x_declared.proofs.DeclaredLemmas.{ok_then}
+use Rattle.x_session.proofs.DeclaredLemmas.{ok_then}
 use Rattle.x_warnings.specs.Warnings.{view_warning}
 use Rattle.x_generating.proofs.ClashLemmas.{told_so, untold_so}
 use Rattle.x_generating.proofs.rpcgen.warnings.told_warnings.Goals as goal

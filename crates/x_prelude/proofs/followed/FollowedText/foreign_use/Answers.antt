@@ -1,4 +1,4 @@
-use Rattle.x_declared.proofs.DeclaredLemmas.{ok_then}
+use Rattle.x_session.proofs.DeclaredLemmas.{ok_then}
 use Rattle.x_prelude.proofs.followed.FollowedText.foreign_use.Goals as goal
 
 pub returns : goal.returns

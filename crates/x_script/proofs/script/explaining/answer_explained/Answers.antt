@@ -2,7 +2,7 @@ use Rattle.std.proofs.Common.{ℕ, List, Ok, false, subst}
 use Rattle.x_streams.specs.Writing.{Adds}
 use Rattle.x_explain.specs.Explained.{AreExplained}
 use Rattle.x_explain.specs.Facts.{before_in}
-use Rattle.x_declared.specs.Foreign.{view_all}
+use Rattle.x_session.specs.Foreign.{view_all}
 use Rattle.x_session.specs.Session.{Compiles}
 use Rattle.x_script.specs.Explaining.{IsExplainAnswer, telling_of}
 use Rattle.x_script.specs.Giving.{GivesBy}

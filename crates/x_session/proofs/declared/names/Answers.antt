@@ -1,7 +1,7 @@
 use Rattle.std.proofs.Common.{◌<◌, ◌^◌, map, ap, ◌∙◌, arith}
 use Rattle.x_trees.specs.View.{tree_at}
-use Rattle.x_declared.proofs.DeclaredLemmas.{names_found, ok_then}
-use Rattle.x_declared.proofs.declared.names.Goals as goal
+use Rattle.x_session.proofs.DeclaredLemmas.{names_found, ok_then}
+use Rattle.x_session.proofs.declared.names.Goals as goal
 
 pub returns : goal.returns
 returns c =

@@ -9,8 +9,8 @@ use Rattle.x_compile.specs.Compile.{Item, IsCompilation, definition_at, parsed_d
 use Rattle.x_compile.specs.Known.{KnownText}
 use Rattle.x_compile.proofs.Compiled.{one_compilation}
 use Rattle.x_session.specs.Session.{Compiles}
-use Rattle.x_declared.specs.ItemWalks.{over_items}
-use Rattle.x_declared.proofs.ItemsLeft.{AreLeft, all_left, item_at, next_item_is, none_left}
+use Rattle.x_session.specs.ItemWalks.{over_items}
+use Rattle.x_session.proofs.ItemsLeft.{AreLeft, all_left, item_at, next_item_is, none_left}
 
 -- this was found in the items before one, and the tokens of the others are left
 pub record HasWalked {S : Type 0} (known : KnownText) (text : List ℕ) (step : S → List Lexeme → Option Definition → S) (first : S) (n : ℕ) (walk : List Lexeme) (found : S) : Type 0 where

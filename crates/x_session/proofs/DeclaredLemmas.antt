@@ -21,12 +21,12 @@ use Rattle.x_compile.specs.Compile.{AreParses, IsCompilation, Item, definition_a
 use Rattle.x_compile.proofs.Compiled.{one_compilation}
 use Rattle.x_compile.specs.Known.{KnownText}
 use Rattle.x_session.specs.Session.{Compiles}
-use Rattle.x_declared.specs.declared.declared.DeclaredNames.{DeclaredNames}
-use Rattle.x_declared.specs.declared.declared.FirstPlace.{FirstPlace}
-use Rattle.x_declared.specs.declared.declared.Spot.{Spot}
-use Rattle.x_declared.specs.DeclaredNames.{IsTableOf, declared_at, first_place, first_place_by, spot_at, word_at, word_of_item, word_spots, words_in}
-use Rattle.x_declared.specs.DeclaredNames.{place_by, place_in, word_spot}
-use Rattle.x_declared.proofs.ItemsLeft.{AreLeft, all_left, item_at, next_item_is, none_left, short_definition}
+use Rattle.x_session.specs.declared.declared.DeclaredNames.{DeclaredNames}
+use Rattle.x_session.specs.declared.declared.FirstPlace.{FirstPlace}
+use Rattle.x_session.specs.declared.declared.Spot.{Spot}
+use Rattle.x_session.specs.DeclaredNames.{IsTableOf, declared_at, first_place, first_place_by, spot_at, word_at, word_of_item, word_spots, words_in}
+use Rattle.x_session.specs.DeclaredNames.{place_by, place_in, word_spot}
+use Rattle.x_session.proofs.ItemsLeft.{AreLeft, all_left, item_at, next_item_is, none_left, short_definition}
 
 -- what holds of one compilation holds of each
 pub of_each : {known : KnownText} {P : List Item → Type 0} (text : List ℕ) → Compiles known text P → (tokens : List (Kind × ℕ)) (items : List Item) → IsCompilation known text tokens items → P items

@@ -8,9 +8,9 @@ use Rattle.x_names.specs.Declarers.{first_declarer}
 use Rattle.x_names.specs.DeclarerTable.{first_in}
 use Rattle.x_names.specs.declared.names.Declarer.{Declarer}
 use Rattle.x_compile.specs.Compile.{Item, definitions_of}
-use Rattle.x_declared.specs.declared.declared.DeclaredNames.{DeclaredNames}
-use Rattle.x_declared.specs.declared.declared.FirstPlace.{FirstPlace}
-use Rattle.x_declared.specs.declared.declared.Spot.{Spot}
+use Rattle.x_session.specs.declared.declared.DeclaredNames.{DeclaredNames}
+use Rattle.x_session.specs.declared.declared.FirstPlace.{FirstPlace}
+use Rattle.x_session.specs.declared.declared.Spot.{Spot}
 
 -- the words of an item: its tokens that count
 abbrev pub words_in : List Lexeme → List Lexeme

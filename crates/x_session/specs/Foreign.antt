@@ -1,7 +1,7 @@
 -- The names that a text takes from C, as they are told.
 use Rattle.std.specs.Prelude.{ℕ, List, map}
-use Rattle.x_declared.specs.declared.declared.Spot.{Spot}
-use Rattle.x_declared.specs.declared.foreign.ForeignName as rust
+use Rattle.x_session.specs.declared.declared.Spot.{Spot}
+use Rattle.x_session.specs.declared.foreign.ForeignName as rust
 
 -- a name, and where the text uses it first
 pub record ForeignName : Type 0 where

@@ -11,7 +11,7 @@ use Rattle.x_trees.specs.Words.{word_of}
 use Rattle.x_item.specs.Parse.{Parse, Nothing, Def, Fault, IsParse}
 use Rattle.x_compile.specs.Compile.{Item, AreParses, definition_at, parsed_definition}
 use Rattle.x_compile.proofs.ItemLemmas.{take_part, drop_part}
-use Rattle.x_declared.specs.DeclaredNames.{words_in}
+use Rattle.x_session.specs.DeclaredNames.{words_in}
 
 -- the items of the tokens that are left, if there is one
 abbrev pub AreLeft : List Lexeme → List (List Lexeme) → Type 0

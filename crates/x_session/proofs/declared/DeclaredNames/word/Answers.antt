@@ -1,7 +1,7 @@
 use Rattle.std.proofs.Common.{◌≡◌, ◌∙◌, ap, length}
 use Rattle.std.specs.Prelude.{option_and_then, slice_get}
-use Rattle.x_declared.proofs.DeclaredLemmas.{got, got_list, looked_up, word_items}
-use Rattle.x_declared.proofs.declared.DeclaredNames.word.Goals as goal
+use Rattle.x_session.proofs.DeclaredLemmas.{got, got_list, looked_up, word_items}
+use Rattle.x_session.proofs.declared.DeclaredNames.word.Goals as goal
 
 pub returns-clause-by_table : goal.returns-clause-by_table
 returns-clause-by_table c =

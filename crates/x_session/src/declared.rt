@@ -1,4 +1,4 @@
-//! Where the names of a text are declared first.
+//! Where the words of an open text stand, and where its names are declared first.
 
 ghost use Rattle.std.specs.Prelude.{◌≡◌, IfOk, List, ℕ, map, option_map};
 ghost use Rattle.x_lex.specs.Places.{lexeme};
@@ -7,15 +7,15 @@ ghost use Rattle.x_names.specs.Declarers.{first_declarer};
 ghost use Rattle.x_names.specs.DeclarerTable.{first_in};
 ghost use Rattle.x_compile.specs.Compile.{Item, definitions_of};
 ghost use Rattle.x_session.specs.Session.{Compiles};
-ghost use Rattle.x_declared.specs.DeclaredNames.{IsTableOf, first_place, spot_at, word_at, word_of_item};
-ghost use Rattle.x_declared.specs.DeclaredNames.{word_spots, words_in};
-ghost use Rattle.x_declared.specs.DeclaredNames.{place_in, spot_in, word_spot};
+ghost use Rattle.x_session.specs.DeclaredNames.{IsTableOf, first_place, spot_at, word_at, word_of_item};
+ghost use Rattle.x_session.specs.DeclaredNames.{word_spots, words_in};
+ghost use Rattle.x_session.specs.DeclaredNames.{place_in, spot_in, word_spot};
 
+use crate::session::Session;
 use std::alloc::Global;
 use x_item::{Definition, NameKind, is_significant, next_item};
 use x_lex::Token;
 use x_names::{Declarer, Names};
-use x_session::Session;
 use x_text::{Lines, NoMemory};
 
 /// A place of a text, with its line and its column.

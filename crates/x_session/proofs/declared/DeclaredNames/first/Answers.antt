@@ -1,9 +1,9 @@
 use Rattle.std.proofs.Common.{◌∙◌, None, Some, ap, sym}
 use Rattle.std.specs.Prelude.{option_and_then, option_map}
-use Rattle.x_declared.specs.DeclaredNames.{declared_at}
-use Rattle.x_declared.specs.DeclaredNames.{place_by}
-use Rattle.x_declared.proofs.DeclaredLemmas.{place_items}
-use Rattle.x_declared.proofs.declared.DeclaredNames.first.Goals as goal
+use Rattle.x_session.specs.DeclaredNames.{declared_at}
+use Rattle.x_session.specs.DeclaredNames.{place_by}
+use Rattle.x_session.proofs.DeclaredLemmas.{place_items}
+use Rattle.x_session.proofs.declared.DeclaredNames.first.Goals as goal
 
 pub returns-in-Some-clause-by_table : goal.returns-in-Some-clause-by_table
 returns-in-Some-clause-by_table c =

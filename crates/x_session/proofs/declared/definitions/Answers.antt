@@ -1,8 +1,8 @@
 use Rattle.std.proofs.Common.{◌+◌, map, refl, ap, sym, subst, ◌∙◌}
 use Rattle.x_trees.specs.View.{tree_at}
 use Rattle.x_compile.specs.Compile.{Item, parsed_definition}
-use Rattle.x_declared.proofs.DeclaredLemmas.{HasTold, map-snoc, of_each, told_all, told_more}
-use Rattle.x_declared.proofs.declared.definitions.Goals as goal
+use Rattle.x_session.proofs.DeclaredLemmas.{HasTold, map-snoc, of_each, told_all, told_more}
+use Rattle.x_session.proofs.declared.definitions.Goals as goal
 
 pub loop-item-preserved : goal.loop-item-preserved
 loop-item-preserved c =

@@ -1,8 +1,8 @@
 use Rattle.std.proofs.Common.{◌+◌, map, refl, ap, sym, subst, ◌∙◌}
 use Rattle.x_lex.specs.Places.{Lexeme, lexeme}
-use Rattle.x_declared.specs.DeclaredNames.{spot_at, word_spots, words_in}
-use Rattle.x_declared.proofs.DeclaredLemmas.{HasWords, map-snoc, told_all, words_more, words_none}
-use Rattle.x_declared.proofs.declared.words.Goals as goal
+use Rattle.x_session.specs.DeclaredNames.{spot_at, word_spots, words_in}
+use Rattle.x_session.proofs.DeclaredLemmas.{HasWords, map-snoc, told_all, words_more, words_none}
+use Rattle.x_session.proofs.declared.words.Goals as goal
 
 pub loop-init : goal.loop-init
 loop-init c = (

@@ -1,3 +1,0 @@
-pub mod DeclaredLemmas
-pub mod ItemWalking
-pub mod ItemsLeft

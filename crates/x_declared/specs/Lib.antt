@@ -1,3 +1,0 @@
-pub mod DeclaredNames
-pub mod Foreign
-pub mod ItemWalks
