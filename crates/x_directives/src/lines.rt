@@ -144,8 +144,8 @@ impl<'t> Lines<'t> {
     }
 }
 
-/// Whether no directive can be in the text.
-pub(crate) fn has_no_hash(text: &[u8]) -> bool
+/// Whether no `#` is in the text, and so no directive.
+pub fn has_no_hash(text: &[u8]) -> bool
     ensures { result ≡ true → All (λ byte. (byte == 35) ≡ false) text.now }
 {
     memchr(b'#', text).is_none()

@@ -18,6 +18,17 @@ use Rattle.x_documents.specs.Compiled.{IsCompiled}
 use Rattle.x_documents.specs.Grounds.{compiled_of, constants_of, ground_with}
 use Rattle.x_documents.specs.Noting.{IsNotCompiled}
 
+-- what stands before what is opened behind these files, of this text, by its own names
+before_so : (files : List ℕ) (blanks : Bool) (shown front bytes : List ℕ) (from : FromC) (text : FollowedText)
+    → front ≡ files ++ constants_of blanks shown → bytes ≡ compiled_of blanks shown
+    → text.files.items ≡ front → text.session.text ≡ bytes → text.from_c ≡ from
+    → IsBefore front from bytes text.session.known
+    → IsBefore text.files.items text.from_c text.session.text text.session.known
+before_so files blanks shown front bytes from text front_is bytes_are own own_text own_from before =
+    subst (λ f. IsBefore f text.from_c text.session.text text.session.known) (sym own)
+    (subst (λ c. IsBefore front c text.session.text text.session.known) (sym own_from)
+    (subst (λ t. IsBefore front from t text.session.known) (sym own_text) before))
+
 -- what is opened behind these files, of this text
 is_compiled : (files : List ℕ) (blanks : Bool) (shown front bytes : List ℕ) (from : FromC) (text : FollowedText)
     → front ≡ files ++ constants_of blanks shown → bytes ≡ compiled_of blanks shown
@@ -26,9 +37,7 @@ is_compiled : (files : List ℕ) (blanks : Bool) (shown front bytes : List ℕ) 
 is_compiled files blanks shown front bytes from text front_is bytes_are own own_text own_from before = record {
   files_are = own ∙ front_is;
   text_is = own_text ∙ bytes_are;
-  before = merely (subst (λ f. IsBefore f text.from_c text.session.text text.session.known) (sym own)
-      (subst (λ c. IsBefore front c text.session.text text.session.known) (sym own_from)
-      (subst (λ t. IsBefore front from t text.session.known) (sym own_text) before)));
+  before = merely (before_so files blanks shown front bytes from text front_is bytes_are own own_text own_from before);
 }
 
 pub opened_so : {E : Type 0} (r : Result FollowedText E) (files : List ℕ) (blanks : Bool) (shown front bytes : List ℕ)
@@ -39,19 +48,27 @@ opened_so (Ok t) files blanks shown front bytes from f b own text own_from befor
     is_compiled files blanks shown front bytes from t f b own text own_from before
 opened_so (Err e) files blanks shown front bytes from f b own text own_from before = tt
 
-pub replaced_so : {T E : Type 0} (r : Result T E) (files : List ℕ) (blanks : Bool) (shown front bytes : List ℕ)
+pub followed_so : {T E : Type 0} (r : Result T E) (files : List ℕ) (blanks : Bool) (shown front bytes : List ℕ)
     (from : FromC) (t : FollowedText) → front ≡ files ++ constants_of blanks shown
     → bytes ≡ compiled_of blanks shown → OnOk r (t.files.items ≡ front) → OnOk r (t.session.text ≡ bytes)
-    → t.from_c ≡ from → OnOk r (IsBefore front from bytes t.session.known)
+    → t.from_c ≡ from → OnOk r ∥ IsBefore front from bytes t.session.known ∥₁
     → OnOk r (IsCompiled files blanks shown t)
-replaced_so (Ok x) files blanks shown front bytes from t f b own text own_from before =
-    is_compiled files blanks shown front bytes from t f b own text own_from before
-replaced_so (Err e) files blanks shown front bytes from t f b own text own_from before = tt
+followed_so (Ok x) files blanks shown front bytes from t f b own text own_from before = record {
+  files_are = own ∙ f;
+  text_is = text ∙ b;
+  before = ∥∥₁_map before (before_so files blanks shown front bytes from t f b own text own_from);
+}
+followed_so (Err e) files blanks shown front bytes from t f b own text own_from before = tt
 
 -- what follows where there is no error, of what is merely there
 pub merely_on : {T E A : Type 0} (B : Type 0) (r : Result T E) → ∥ A ∥₁ → (A → OnOk r B) → OnOk r ∥ B ∥₁
 merely_on B (Ok x) a f = ∥∥₁_map a f
 merely_on B (Err e) a f = tt
+
+-- and what is so is merely so
+pub on_merely : {T E : Type 0} (A : Type 0) (r : Result T E) → OnOk r A → OnOk r ∥ A ∥₁
+on_merely A (Ok x) a = merely a
+on_merely A (Err e) a = tt
 
 pub opened_over : {E : Type 0} (r : Result FollowedText E) → IfOk r IsOver → IfOk r (λ t. ∥ IsOver t ∥₁)
 opened_over (Ok t) over = merely over

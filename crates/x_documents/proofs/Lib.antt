@@ -5,5 +5,6 @@ pub mod HintLemmas
 pub mod ListLemmas
 pub mod NotingLemmas
 pub mod SaidLemmas
+pub mod StandLemmas
 pub mod TellingLemmas
 pub mod WarnedLemmas

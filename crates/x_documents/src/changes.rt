@@ -1,6 +1,6 @@
 //! What a client does to a text.
 
-ghost use Rattle.std.specs.Prelude.{◌≡◌, ◌↔◌, OnErr, OnOk};
+ghost use Rattle.std.specs.Prelude.{◌≡◌, ◌↔◌, IfOk, OnErr, OnOk};
 ghost use Rattle.x_text.specs.Edits.{change_of, edited_by, Judges, LiesWithin};
 ghost use Rattle.x_frames.specs.Params.{replacement_of};
 ghost use Rattle.x_documents.specs.Changes.{change_by};
@@ -13,14 +13,14 @@ use x_positions::Waymarks;
 use x_session::EditFault;
 use x_text::{Edit, Source};
 
-/// Carries a change of a text out, by waymarks of it, which follow the change. After a fault the text is as
-/// before.
-pub fn apply_change(
+/// Carries a change of a text out, by waymarks of it, which follow the change, and answers the edit that it is.
+/// After a fault the text is as before.
+pub fn apply_change<'c>(
     alloc: Global,
     text: &mut Source,
     marks: &mut Waymarks,
-    change: &TextChange,
-) -> Result<(), EditFault>
+    change: &TextChange<'c>,
+) -> Result<Edit<'c>, EditFault>
     requires { AreWaymarks text.old marks.old }
     ensures text { OnOk result
         (text.new ≡ edited_by (change_by marks.old.encoding text.old (replacement_of change.now))) }
@@ -28,11 +28,13 @@ pub fn apply_change(
     ensures same { OnErr result (text.new ≡ text.old) }
     ensures marks { AreWaymarks text.new marks.new }
     ensures encoding { marks.new.encoding ≡ marks.old.encoding }
+    ensures makes { IfOk result (λ edit. edited_by (change_of text.old edit) ≡ text.new) }
+    ensures within { IfOk result (λ edit. LiesWithin (change_of text.old edit)) }
 {
     let edit = edit_of(marks, text.bytes(), change);
     text.replace(&edit)?;
     marks.follow(alloc, text.bytes(), &edit);
-    Ok(())
+    Ok(edit)
 }
 
 /// The edit that a change of a text is. What is sent whole changes what lies between the longest front and

@@ -1,11 +1,13 @@
 //! What is compiled of the text that a client has.
 
-ghost use Rattle.std.specs.Prelude.{◌≡◌, ◌⊎◌, ◌<◌, ◌++◌, false, true, IfErr, IfOk, IsErrOf, OnOk, length};
+ghost use Rattle.std.specs.Prelude.{◌≡◌, ◌⊎◌, ◌<◌, ◌++◌, ◌&&◌, false, true, not, IfErr, IfOk, IsErrOf, OnOk};
+ghost use Rattle.std.specs.Prelude.{length};
 ghost use Rattle.std.specs.List.{flat_map};
 ghost use Rattle.x_prelude.specs.Before.{IsBefore, IsCrowded};
+ghost use Rattle.x_text.specs.Edits.{change_of, edited_by, LiesWithin};
 ghost use Rattle.x_text.specs.Limits.{most_text};
 ghost use Rattle.x_prelude.specs.Followed.{IsOver};
-ghost use Rattle.x_documents.specs.Compiled.{IsCompiled};
+ghost use Rattle.x_documents.specs.Compiled.{HasNoHash, IsCompiled, Stands};
 ghost use Rattle.x_directives.specs.Blanked.{blanked};
 ghost use Rattle.x_directives.specs.Constants.{defined};
 ghost use Rattle.x_documents.specs.Grounds.{compiled_of, constant_text, constants_of, ground_of, ground_with};
@@ -14,11 +16,11 @@ ghost use Rattle.x_documents.specs.Noting.{IsNotCompiled};
 
 use crate::setting::Setting;
 use std::alloc::Global;
-use x_directives::{blanked, defined, edit_between};
+use x_directives::{blanked, defined, edit_between, has_no_hash};
 use x_hash::HashKey;
 use x_prelude::FollowedText;
 use x_session::EditFault;
-use x_text::NoMemory;
+use x_text::{Edit, NoMemory};
 
 /// Compiles a text that a client has. `base` is the name that generated texts use.
 pub(crate) fn open_text(
@@ -47,15 +49,33 @@ pub(crate) fn open_text(
     )
 }
 
+/// Whether nothing is blanked of a text with these fresh bytes, if none of the others is a `#`.
+pub(crate) fn stands(blanks: bool, fresh: &[u8], text: &[u8]) -> bool
+    ensures hash { result ≡ true → blanks ≡ true → HasNoHash fresh.now }
+    ensures mark { result ≡ true → blanks ≡ true → has_mark text.now ≡ false }
+{
+    !blanks || (!has_mark(text) && has_no_hash(fresh))
+}
+
+/// Whether lines of cpp matter to what is told of a text, where these may be blanked.
+pub(crate) fn has_lines(blanks: bool, stands: bool) -> bool
+    ensures { result ≡ (blanks && not stands) }
+{
+    blanks && !stands
+}
+
 /// Compiles the text that a client has now: by one edit, or anew where its directives give other constants.
+/// Whether it stands as it is, is known.
 pub(crate) fn follow_text(
     alloc: Global,
     text: &mut FollowedText,
     files: &[u8],
     blanks: bool,
+    stands: bool,
     shown: &[u8],
 ) -> Result<(), EditFault>
-    requires { ∥ IsOver text.now ∥₁ }
+    requires over { ∥ IsOver text.now ∥₁ }
+    requires stands { stands ≡ true → Stands blanks shown.now }
     ensures over { ∥ IsOver text.new ∥₁ }
     ensures from_c { text.new.from_c ≡ text.old.from_c }
     ensures compiled { OnOk result (IsCompiled files.now blanks shown.now text.new) }
@@ -63,13 +83,33 @@ pub(crate) fn follow_text(
     ensures fault { IfErr result
         (IsNotCompiled (ground_with files.now text.old.from_c blanks false 0) shown.now) }
 {
+    if stands {
+        return follow_both(text, files, shown);
+    }
     let Ok(parts) = Parts::of(alloc, files, blanks, shown) else {
         return Err(EditFault::NoMemory);
     };
-    if parts.files.as_slice() == text.files.as_slice() {
-        follow(text, &parts.text)
+    follow_both(text, &parts.files, &parts.text)
+}
+
+/// Makes these bytes the text that is compiled: by one edit, or anew where other files stand before it.
+fn follow_both(text: &mut FollowedText, files: &[u8], bytes: &[u8]) -> Result<(), EditFault>
+    requires { ∥ IsOver text.now ∥₁ }
+    ensures over { ∥ IsOver text.new ∥₁ }
+    ensures from_c { text.new.from_c ≡ text.old.from_c }
+    ensures files { OnOk result (text.new.files.items ≡ files.now) }
+    ensures text { OnOk result (text.new.session.text ≡ bytes.now) }
+    ensures base { text.new.session.base ≡ text.old.session.base }
+    ensures before { OnOk result
+        ∥ IsBefore files.now text.old.from_c bytes.now text.new.session.known ∥₁ }
+    ensures large { IsErrOf result EditFault.TooLarge → ∥ (most_text < length bytes.now)
+        ⊎ IsCrowded files.now text.old.from_c bytes.now ∥₁ }
+    ensures in_range { IsErrOf result EditFault.BadRange → ⊥ }
+{
+    if files == text.files.as_slice() {
+        follow(text, bytes)
     } else {
-        text.replace(&parts.files, &parts.text)
+        text.replace(files, bytes)
     }
 }
 
@@ -155,13 +195,34 @@ fn follow(text: &mut FollowedText, bytes: &[u8]) -> Result<(), EditFault>
     ensures from_c { text.new.from_c ≡ text.old.from_c }
     ensures text { OnOk result (text.new.session.text ≡ bytes.now) }
     ensures base { text.new.session.base ≡ text.old.session.base }
-    ensures before { OnOk result ∥ IsBefore text.new.files.items text.new.from_c text.new.session.text
-        text.new.session.known ∥₁ }
+    ensures before { OnOk result
+        ∥ IsBefore text.old.files.items text.old.from_c bytes.now text.new.session.known ∥₁ }
     ensures large { IsErrOf result EditFault.TooLarge → ∥ (most_text < length bytes.now)
         ⊎ IsCrowded text.old.files.items text.old.from_c bytes.now ∥₁ }
     ensures in_range { IsErrOf result EditFault.BadRange → ⊥ }
 {
     let edit = edit_between(text.session.bytes(), bytes);
-    text.apply(&edit)?;
+    follow_edit(text, &edit)
+}
+
+/// Carries an edit of the text that is compiled out, and puts before it what stands before it then.
+pub(crate) fn follow_edit(text: &mut FollowedText, edit: &Edit) -> Result<(), EditFault>
+    requires over { ∥ IsOver text.now ∥₁ }
+    requires within { LiesWithin (change_of text.now.session.text edit.now) }
+    ensures over { ∥ IsOver text.new ∥₁ }
+    ensures files { text.new.files ≡ text.old.files }
+    ensures from_c { text.new.from_c ≡ text.old.from_c }
+    ensures text { OnOk result
+        (text.new.session.text ≡ edited_by (change_of text.old.session.text edit.now)) }
+    ensures base { text.new.session.base ≡ text.old.session.base }
+    ensures before { OnOk result ∥ IsBefore text.old.files.items text.old.from_c
+        (edited_by (change_of text.old.session.text edit.now)) text.new.session.known ∥₁ }
+    ensures large { IsErrOf result EditFault.TooLarge
+        → ∥ (most_text < length (edited_by (change_of text.old.session.text edit.now)))
+        ⊎ IsCrowded text.old.files.items text.old.from_c
+        (edited_by (change_of text.old.session.text edit.now)) ∥₁ }
+    ensures in_range { IsErrOf result EditFault.BadRange → ⊥ }
+{
+    text.apply(edit)?;
     text.renew()
 }

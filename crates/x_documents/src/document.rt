@@ -7,7 +7,7 @@ ghost use Rattle.x_prelude.specs.Followed.{IsOver};
 ghost use Rattle.x_frames.specs.Answers.{IsToNotification};
 ghost use Rattle.x_frames.specs.Params.{position_asked, replacement_of};
 ghost use Rattle.x_documents.specs.Changes.{changed_by_all};
-ghost use Rattle.x_documents.specs.Compiled.{IsCompiled};
+ghost use Rattle.x_documents.specs.Compiled.{IsAsItStands, IsCompiled};
 ghost use Rattle.x_args.specs.BaseNames.{base_of};
 ghost use Rattle.x_documents.specs.DocumentNames.{name_of};
 ghost use Rattle.x_documents.specs.Documents.{document_with, lost};
@@ -20,8 +20,8 @@ ghost use Rattle.x_documents.specs.Publishing.{Publishes};
 ghost use Rattle.x_documents.specs.Replies.{said_of};
 ghost use Rattle.x_positions.specs.Waymarks.{AreWaymarks};
 
-use crate::changes::apply_change;
-use crate::compiled::{follow_text, open_text};
+use crate::carrying::carry_out;
+use crate::compiled::{has_lines, open_text, stands};
 use crate::diagnostics::{Hints, publish};
 use crate::kept::{Reply, told};
 use crate::names::name_of;
@@ -62,9 +62,12 @@ pub struct OpenDocument {
     marks: Waymarks,
     /// What was said of its faults last.
     messages: FaultMessages,
+    /// Whether the text is compiled, and as it stands: then an edit of it is one of what is compiled.
+    stands: bool,
     /// Whether the text is the client's, and is compiled: no change was refused, or not understood, since it
     /// was sent whole.
     pub(crate) in_step: bool,
+    ghost stood: { stands ≡ true → IsAsItStands files.items blanks shown compiled },
     ghost followed: { in_step ≡ true → IsCompiled files.items blanks shown compiled },
     ghost over: { ∥ IsOver compiled ∥₁ },
     ghost marked: { AreWaymarks shown marks },
@@ -106,6 +109,7 @@ impl OpenDocument {
             return Err(EditFault::NoMemory);
         };
         let shown = Source::from_bytes(alloc, text.as_bytes())?;
+        let stands = stands(setting.blanks, shown.bytes(), shown.bytes());
         let compiled = open_text(alloc, hash_key, setting, base_name(&name), shown.bytes())?;
         let Ok(marks) = Waymarks::of(alloc, client.encoding, shown.bytes()) else {
             return Err(EditFault::NoMemory);
@@ -123,6 +127,7 @@ impl OpenDocument {
             compiled,
             marks,
             messages: FaultMessages::new(alloc),
+            stands,
             in_step: true,
         })
     }
@@ -190,16 +195,18 @@ impl OpenDocument {
             ≡ ground_with self.old.files.items self.old.compiled.from_c self.old.blanks self.old.warns
             self.old.most }
     {
-        let changed = apply_changes(alloc, &mut self.shown, &mut self.marks, changes);
-        let followed = follow_text(
+        let stood = mem::replace(&mut self.stands, false);
+        self.stands = carry_out(
             alloc,
+            &mut self.shown,
+            &mut self.marks,
             &mut self.compiled,
             &self.files,
             self.blanks,
-            self.shown.bytes(),
-        );
-        changed?;
-        followed
+            stood,
+            changes,
+        )?;
+        Ok(())
     }
 
     /// The document is out of step. Whether it was in step before.
@@ -239,7 +246,7 @@ impl OpenDocument {
             return Reply::NoMemoryNote;
         };
         let hints = Hints {
-            blanks: self.blanks,
+            blanks: has_lines(self.blanks, self.stands),
             foreign: &foreign,
             warns: self.warns,
             most: self.most,
@@ -309,28 +316,6 @@ impl OpenDocument {
     {
         self.marks.offset(self.shown.bytes(), position)
     }
-}
-
-/// Carries changes of a text out, one after another, up to the first that is refused.
-fn apply_changes(
-    alloc: Global,
-    text: &mut Source,
-    marks: &mut Waymarks,
-    changes: &[TextChange],
-) -> Result<(), EditFault>
-    requires { AreWaymarks text.old marks.old }
-    ensures text { OnOk result
-        (text.new ≡ changed_by_all marks.old.encoding text.old (map replacement_of changes.now)) }
-    ensures fit { OnOk result (Fit marks.old.encoding text.old (map replacement_of changes.now)) }
-    ensures fault { IfErr result
-        (λ fault. IsStopped marks.old.encoding text.old fault (map replacement_of changes.now)) }
-    ensures marks { AreWaymarks text.new marks.new }
-    ensures encoding { marks.new.encoding ≡ marks.old.encoding }
-{
-    for change in changes {
-        apply_change(alloc, text, marks, change)?;
-    }
-    Ok(())
 }
 
 /// Whether changes of a document are passed over, which is in step or not.

@@ -2,6 +2,7 @@
 //! makes, what is compiled of their texts, what is published of them, and when one is out of step.
 #![tactic(auto)]
 
+mod carrying;
 mod changes;
 mod compiled;
 mod diagnostics;

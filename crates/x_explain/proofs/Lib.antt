@@ -1,4 +1,5 @@
 pub mod AgainLemmas
+pub mod ByteLemmas
 pub mod ColumnLemmas
 pub mod ExcerptLemmas
 pub mod ForeignLemmas

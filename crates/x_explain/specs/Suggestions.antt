@@ -1,6 +1,6 @@
 -- What an undeclared word may have been meant as.
-use Rattle.std.specs.Prelude.{◌≡◌, ℕ, ◌-◌, ◌*◌, Bool, true, false, ◌&&◌, ◌||◌, ◌==◌, nat_le, nat_eq, List}
-use Rattle.std.specs.Prelude.{[], ◌∷◌, codes, length, map, take, slice_range, Option, None, Some}
+use Rattle.std.specs.Prelude.{◌≡◌, ◌<◌, ℕ, ◌-◌, ◌*◌, Bool, true, false, ◌&&◌, ◌||◌, ◌==◌, nat_le, nat_eq, List}
+use Rattle.std.specs.Prelude.{[], ◌∷◌, codes, length, map, take, slice_index_or, slice_range, Option, None, Some}
 use Rattle.std.specs.Prelude.{option_and_then, option_map, if◌then◌else◌, not}
 use Rattle.std.specs.List.{filter, flat_map, list_any}
 use Rattle.std.specs.Map.{lookup}
@@ -79,10 +79,14 @@ is_about_as_long word name =
 abbrev pub strange : (word name : List ℕ) → ℕ
 strange word name = length (filter (λ b. not (list_any (λ y. y == b) name)) word)
 
+-- of each byte, whether it stands in a word
+abbrev pub HasBytes : (has : List Bool) → (word : List ℕ) → Type 0
+HasBytes has word = (b : ℕ) → b < 256 → slice_index_or has b false ≡ list_any (λ y. y == b) word
+
 -- of both, at most a third of the word's length is not in the other: a step takes away one such byte at most,
 -- so this holds of each near name
 abbrev pub is_alike : (word name : List ℕ) → Bool
-is_alike word name = is_small word (strange word name) && is_small word (strange name word)
+is_alike word name = is_small word (strange name word) && is_small word (strange word name)
 
 -- a name is near whose distance is at most a third of the word's length
 abbrev pub is_near : (word name : List ℕ) → Bool

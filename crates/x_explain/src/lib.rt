@@ -9,6 +9,7 @@ mod foreign;
 mod found;
 mod known_files;
 mod laws;
+mod likeness;
 mod lines;
 mod sentences;
 mod shown;

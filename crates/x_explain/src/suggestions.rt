@@ -9,18 +9,15 @@ ghost use Rattle.x_names.specs.Declarers.{AreShort};
 ghost use Rattle.x_compile.specs.Compile.{definitions_of, places_of};
 ghost use Rattle.x_session.specs.Session.{Compiles};
 ghost use Rattle.x_explain.specs.Found.{AreFound};
-ghost use Rattle.x_explain.specs.Suggestions.{AreSuggested, compared, distance, is_bool, is_hyper, is_int};
-ghost use Rattle.x_explain.specs.Suggestions.{is_about_as_long, is_alike, is_near, is_nearer, is_small};
-ghost use Rattle.x_explain.specs.Suggestions.{is_unknown, strange};
-ghost use Rattle.x_explain.specs.Suggestions.{is_unsigned_hyper};
-ghost use Rattle.x_explain.specs.Suggestions.{is_unsigned_int, is_unsigned_long, is_unsigned_of_width};
-ghost use Rattle.x_explain.specs.Suggestions.{nearest, sought, suggested};
-ghost use Rattle.x_explain.specs.Suggestions.{suggested_at, suggestion, type_of_c, view_suggestion};
+ghost use Rattle.x_explain.specs.Suggestions.{AreSuggested, compared, is_bool, is_hyper, is_int, is_unknown};
+ghost use Rattle.x_explain.specs.Suggestions.{is_unsigned_hyper, is_unsigned_int, is_unsigned_long};
+ghost use Rattle.x_explain.specs.Suggestions.{is_unsigned_of_width, sought, suggested, suggested_at};
+ghost use Rattle.x_explain.specs.Suggestions.{suggestion, type_of_c, view_suggestion};
 
 use crate::found::{FoundFault, found_at, word_at};
+use crate::likeness::{Word, nearest};
 use std::alloc::Global;
 use std::borrow::CowSlice;
-use strsim::generic_damerau_levenshtein;
 use x_item::{Definition, declares};
 use x_session::{FaultCode, FaultPlace, RuleCode, Session, definitions};
 use x_text::NoMemory;
@@ -30,9 +27,6 @@ const MOST_WORDS: usize = 16;
 
 /// With how many of its names they are compared.
 const MOST_NAMES: usize = 1024;
-
-/// How long words and names are at most that are compared, in bytes.
-const LONGEST: usize = 64;
 
 /// What is suggested for an undeclared word.
 #[derive(Debug, Drop)]
@@ -203,7 +197,7 @@ fn suggestion_for(
     if let Some(name) = type_of_c(word) {
         return Ok(Some(owned(alloc, name.as_bytes())?));
     }
-    match nearest(alloc, word, names)? {
+    match nearest(alloc, &Word::of(word), names)? {
         Some(name) => Ok(Some(owned(alloc, name)?)),
         None => Ok(None),
     }
@@ -291,100 +285,4 @@ fn is_bool(word: &[u8]) -> bool
     ensures { result ≡ is_bool word.now }
 {
     word == b"bool_t".as_slice() || word == b"boolean".as_slice()
-}
-
-/// The nearest of some names, of several at one distance the first.
-fn nearest<'n>(
-    alloc: Global,
-    word: &[u8],
-    names: &'n [CowSlice<u8>],
-) -> Result<Option<&'n [u8]>, NoMemory>
-    ensures { IfOk result (λ found. option_map (λ n. n.now) found
-        ≡ nearest word.now (map cow_slice_items names.now)) }
-{
-    let mut found: Option<&[u8]> = None;
-    for index in (0..names.len()).rev() {
-        let name: &[u8] = &names[index];
-        if is_nearer(alloc, word, name, found)? {
-            found = Some(name);
-        }
-    }
-    Ok(found)
-}
-
-/// Whether a name is near, and no farther than another one.
-fn is_nearer(
-    alloc: Global,
-    word: &[u8],
-    name: &[u8],
-    other: Option<&[u8]>,
-) -> Result<bool, NoMemory>
-    ensures { IfOk result (λ nearer. nearer
-        ≡ is_nearer word.now name.now (option_map (λ n. n.now) other.entry)) }
-{
-    if !is_near(alloc, word, name)? {
-        return Ok(false);
-    }
-    match other {
-        Some(other) => Ok(distance(alloc, word, name)? <= distance(alloc, word, other)?),
-        None => Ok(true),
-    }
-}
-
-/// Whether a name is at a distance of at most a third of the word's length.
-fn is_near(alloc: Global, word: &[u8], name: &[u8]) -> Result<bool, NoMemory>
-    ensures { IfOk result (λ near. near ≡ is_near word.now name.now) }
-{
-    if word.len() > LONGEST || name.len() > LONGEST || !is_about_as_long(word, name) {
-        return Ok(false);
-    }
-    // Most names end here, without memory.
-    if !is_alike(word, name) {
-        return Ok(false);
-    }
-    Ok(is_small(word, distance(alloc, word, name)?))
-}
-
-/// Whether the lengths of a word and a name differ by at most a third of the word's.
-fn is_about_as_long(word: &[u8], name: &[u8]) -> bool
-    ensures { result ≡ is_about_as_long word.now name.now }
-{
-    is_small(word, word.len().saturating_sub(name.len()))
-        && is_small(word, name.len().saturating_sub(word.len()))
-}
-
-/// Whether of a word and a name, at most a third of the word's length is not in the other, as of each near
-/// name.
-fn is_alike(word: &[u8], name: &[u8]) -> bool
-    ensures { result ≡ is_alike word.now name.now }
-{
-    is_small(word, strange(word, name)) && is_small(word, strange(name, word))
-}
-
-/// How many bytes of a word are not in a name.
-fn strange(word: &[u8], name: &[u8]) -> usize
-    ensures { result ≡ strange word.now name.now }
-{
-    let mut count = 0;
-    for byte in word {
-        if !name.contains(byte) {
-            count += 1;
-        }
-    }
-    count
-}
-
-/// Whether these are at most a third as many as the bytes of a word.
-fn is_small(word: &[u8], steps: usize) -> bool
-    ensures { result ≡ is_small word.now steps }
-{
-    steps.saturating_mul(3) <= word.len()
-}
-
-/// In how many steps the name is made of the word: a byte is put in, left out or replaced, or two neighbours
-/// are swapped.
-fn distance(alloc: Global, word: &[u8], name: &[u8]) -> Result<usize, NoMemory>
-    ensures { IfOk result (λ edits. edits ≡ distance word.now name.now) }
-{
-    Ok(generic_damerau_levenshtein(alloc, word, name)?)
 }

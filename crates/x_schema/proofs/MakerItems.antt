@@ -1,6 +1,7 @@
 -- The items of a text, one behind another, and the schema at their end.
 use Rattle.std.proofs.Common.{◌≡◌, ℕ, zero, suc, ◌<◌, ◌≤◌, arith, Bool, true, false, cond, is_some, map, length, get_or, List, [], ◌∷◌, ◌++◌, Option, None, Some, refl, sym, ap, subst, ◌∙◌, append_assoc, append-nil}
 use Rattle.std.specs.Map.{lookup}
+use Rattle.std.specs.Prelude.{Result, Ok, Err, IfOk}
 use Rattle.std.specs.Str.{bytes_eq}
 use Rattle.x_trees.specs.Tree as tree
 use Rattle.std.specs.Option.{option_or}
@@ -244,3 +245,11 @@ pub end_last : (start m last : Maker) (before after : Known) (definitions : List
 end_last start m last before after definitions table ps is finds empty put =
     let puts = put (end_good start m before after definitions is finds empty) in
     (puts.good, (puts.is (length last.names.items) (length last.forms.items) (some_schema last) (some_behind last)).within tt)
+
+-- what holds of each schema that the maker ends with holds of the one that it gives
+pub ended : {E : Type 0} (r : Result Schema E) (definitions : List (Option tree.Definition)) (last : Maker) (types : Types) (table : Table)
+    → IfOk r (λ s. Completes last s) → IfOk r (λ s. s.types ≡ types) → IfOk r (λ s. s.procedures ≡ table)
+    → ((s : Schema) → Completes last s → s.types ≡ types → s.procedures ≡ table → IsSchemaOf definitions s)
+    → IfOk r (IsSchemaOf definitions)
+ended (Ok s) definitions last types table completes types_are table_is of_all = of_all s completes types_are table_is
+ended (Err e) definitions last types table completes types_are table_is of_all = tt

@@ -22,7 +22,9 @@ ghost use Rattle.x_schema.specs.SchemaOf.{typedefs_of_arms, typedefs_of_default,
 ghost use Rattle.x_trees.specs.Declarations.{is_void, name_of};
 ghost use Rattle.x_schema.specs.SchemaOf as schema;
 ghost use Rattle.x_schema.specs.SchemaMaking.{AddsName, AddsForm, AddsLink, AddsFound};
-ghost use Rattle.x_schema.specs.SchemaMaking.{PutsAll, PutsPlace, PutsLink};
+ghost use Rattle.x_schema.specs.SchemaMaking.{Completes, IsGood, PutsAll, PutsPlace, PutsLink};
+ghost use Rattle.x_schema.specs.ProcedureMaking.{AreKeptWithin};
+ghost use Rattle.x_schema.specs.SchemaOf.{numbers_of};
 ghost use Rattle.x_schema.specs.SchemaMaking.{AreSoundCases, AreSoundWords, IsStart};
 ghost use Rattle.x_schema.specs.Sound.{IsSoundDefault};
 ghost use Rattle.x_schema.specs.SchemaMaking.{FindsItem, FindsItems, TakesFound, with_found};
@@ -35,6 +37,7 @@ ghost use Rattle.x_schema.specs.Sound.{AreSoundFields, IsSoundArm, IsSoundField,
 
 use crate::constants::{Constants, signed_word, unsigned_word};
 use crate::form::{Arm, Arms, Enumerators, Field, Form, FormIndex, LinkIndex, NameIndex};
+use crate::procedures::ProcedureTable;
 use crate::schema::{NamedType, Schema};
 use indexmap::IndexMap;
 use std::alloc::Global;
@@ -71,6 +74,22 @@ impl<'d> Model for Known<'d> {
 }
 
 impl<'d> Known<'d> {
+    /// What the first item is read by, in tables that hash by the key.
+    fn of(
+        alloc: Global,
+        hash_key: HashKey,
+        definitions: &[Option<&'d Definition>],
+    ) -> Result<Known<'d>, NoMemory>
+        ensures numbers { IfOk result (λ known. known.numbers ≡ numbers_of (map tree_at definitions.now)) }
+        ensures types { IfOk result (λ known. known.types ≡ []) }
+    {
+        Ok(Known {
+            constants: Constants::of(alloc, hash_key, definitions)?,
+            types: IndexMap::with_hasher(alloc, hash_key),
+            hash_key,
+        })
+    }
+
     fn constants(&self) -> &Constants<'d>
         ensures { result.now ≡ self.now.numbers }
     {
@@ -803,6 +822,32 @@ impl<'d> Maker<'d> {
     }
 }
 
+impl<'d> Maker<'d> {
+    /// The schema of all that was put, with these procedures, where the types of all names are known.
+    fn end(
+        self,
+        alloc: Global,
+        known: Known<'d>,
+        procedures: ProcedureTable,
+    ) -> Result<Schema, NoMemory>
+        requires good { IsGood known.types self }
+        requires kept { AreKeptWithin (length self.names.items) (length self.forms.items)
+            procedures.entries }
+        ensures completes { IfOk result (λ schema. Completes self.entry schema) }
+        ensures types { IfOk result (λ schema. schema.types ≡ known.entry.types) }
+        ensures procedures { IfOk result (λ schema. schema.procedures ≡ procedures.entries) }
+    {
+        let links = places_linked(alloc, &known.types, &self.links)?;
+        Ok(Schema {
+            names: self.names,
+            forms: self.forms,
+            links,
+            types: known.types,
+            procedures,
+        })
+    }
+}
+
 /// Takes in the type of a name, if the name has none.
 fn add_type(
     alloc: Global,
@@ -862,23 +907,10 @@ impl Schema {
     ) -> Result<Schema, NoMemory>
         ensures { IfOk result (λ schema. IsSchemaOf (map tree_at definitions.now) schema) }
     {
-        let constants = Constants::of(alloc, hash_key, definitions)?;
-        let types = IndexMap::with_hasher(alloc, hash_key);
-        let mut known = Known {
-            constants,
-            types,
-            hash_key,
-        };
+        let mut known = Known::of(alloc, hash_key, definitions)?;
         let mut maker = Maker::new(alloc)?;
         maker.items(alloc, &mut known, definitions)?;
         let procedures = maker.procedures(alloc, &known, definitions)?;
-        let links = places_linked(alloc, &known.types, &maker.links)?;
-        Ok(Schema {
-            names: maker.names,
-            forms: maker.forms,
-            links,
-            types: known.types,
-            procedures,
-        })
+        maker.end(alloc, known, procedures)
     }
 }

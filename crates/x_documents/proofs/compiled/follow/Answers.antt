@@ -1,38 +1,32 @@
-use Rattle.std.proofs.Common.{ap, subst, sym, ◌∙◌}
-use Rattle.std.specs.Prelude.{OnOk}
-use Rattle.std.proofs.Math.Logic.{∥∥₁_map}
-use Rattle.x_prelude.specs.Before.{IsBefore}
+use Rattle.std.proofs.Common.{◌≡◌, ◌∙◌, ◌<◌, ◌⊎◌, ap, length, subst, sym}
+use Rattle.std.specs.Prelude.{IsErrOf, OnOk}
+use Rattle.x_prelude.specs.Before.{IsBefore, IsCrowded}
 use Rattle.x_text.specs.Edits.{change_of, edited_by}
-use Rattle.x_documents.proofs.CompiledLemmas.{large_so, merely_on, text_same}
+use Rattle.x_text.specs.Limits.{most_text}
+use Rattle.x_text.specs.declared.text.fault.TextFault.TheVariants.{TooLarge}
 use Rattle.x_documents.proofs.compiled.follow.Goals as goal
 
-pub returns-in_err-apply-clause-over : goal.returns-in_err-apply-clause-over
-returns-in_err-apply-clause-over c = ∥∥₁_map c.requires c.apply.ensures.over
-
-pub returns-clause-over : goal.returns-clause-over
-returns-clause-over c = ∥∥₁_map c.requires (λ over. c.renew.ensures.over (c.apply.ensures.over over))
+pub returns-clause-text : goal.returns-clause-text
+returns-clause-text c =
+    let edit = c.edit_between-edit.result in
+    subst (λ t. OnOk c.follow_edit.result (c.follow_edit.new.text.session.text ≡ t))
+    (ap (λ s. edited_by (change_of s edit)) (sym c.bytes.ensures) ∙ c.edit_between-edit.ensures.makes)
+    c.follow_edit.ensures.text
 
 pub returns-clause-before : goal.returns-clause-before
 returns-clause-before c =
-    let r = c.renew.result in
-    let old = c.apply.new.self in
-    let new = c.renew.new.self in
-    let known = new.session.known in
-    subst (λ f. OnOk r ∥ IsBefore f.items new.from_c new.session.text known ∥₁) (sym c.renew.ensures.files)
-    (subst (λ f. OnOk r ∥ IsBefore old.files.items f new.session.text known ∥₁) (sym c.renew.ensures.from_c)
-    (subst (λ t. OnOk r ∥ IsBefore old.files.items old.from_c t known ∥₁) (sym c.renew.ensures.text)
-    (merely_on (IsBefore old.files.items old.from_c old.session.text known) r c.requires (λ over. c.renew.ensures.before (c.apply.ensures.over over)))))
+    let edit = c.edit_between-edit.result in
+    let old = c.args.text.now in
+    let known = c.follow_edit.new.text.session.known in
+    subst (λ t. OnOk c.follow_edit.result ∥ IsBefore old.files.items old.from_c t known ∥₁)
+    (ap (λ s. edited_by (change_of s edit)) (sym c.bytes.ensures) ∙ c.edit_between-edit.ensures.makes)
+    c.follow_edit.ensures.before
 
 pub returns-clause-large : goal.returns-clause-large
 returns-clause-large c =
-    let old = c.args.text.now in
-    let mid = c.apply.new.self in
     let edit = c.edit_between-edit.result in
-    let text = c.in_ok-apply.ensures.text ∙ ap (λ s. edited_by (change_of s edit)) (sym c.bytes.ensures) ∙ c.edit_between-edit.ensures.makes in
-    λ e. ∥∥₁_map c.requires (λ over.
-    large_so old.files.items mid.files.items old.from_c mid.from_c c.args.bytes.now mid.session.text
-    (ap (λ f. f.items) c.apply.ensures.files) c.apply.ensures.from_c text (c.renew.ensures.large (c.apply.ensures.over over) e))
-
-pub returns-clause-base : goal.returns-clause-base
-returns-clause-base c = text_same c.renew.new.self.session.base c.args.text.now.session.base c.requires
-    (λ over. c.renew.ensures.base (c.apply.ensures.over over) ∙ c.apply.ensures.base)
+    let old = c.args.text.now in
+    subst (λ t. IsErrOf c.follow_edit.result TooLarge
+    → ∥ (most_text < length t) ⊎ IsCrowded old.files.items old.from_c t ∥₁)
+    (ap (λ s. edited_by (change_of s edit)) (sym c.bytes.ensures) ∙ c.edit_between-edit.ensures.makes)
+    c.follow_edit.ensures.large

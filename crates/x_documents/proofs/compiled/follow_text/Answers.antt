@@ -1,27 +1,39 @@
-use Rattle.std.proofs.Common.{false, ◌∙◌}
-use Rattle.std.proofs.lemmas.Grind.{merely}
-use Rattle.x_documents.proofs.CompiledLemmas.{not_compiled, over_replaced, replaced_so, text_same}
+use Rattle.std.proofs.Common.{false, sym, ◌∙◌}
+use Rattle.x_documents.proofs.CompiledLemmas.{followed_so, not_compiled}
+use Rattle.x_documents.proofs.StandLemmas.{stood_files, stood_text}
 use Rattle.x_documents.proofs.compiled.follow_text.Goals as goal
+
+pub returns-then-stands-clause-compiled : goal.returns-then-stands-clause-compiled
+returns-then-stands-clause-compiled c =
+    let files = c.args.files.now in
+    let shown = c.args.shown.now in
+    let stands = c.requires.stands c.if-stands.true in
+    let done = c.follow_both.ensures in
+    followed_so c.follow_both.result files c.args.blanks shown files shown c.args.text.now.from_c
+    c.follow_both.new.text (sym (stood_files files c.args.blanks shown stands))
+    (sym (stood_text c.args.blanks shown stands)) done.files done.text done.from_c done.before
+
+pub returns-then-stands-clause-fault : goal.returns-then-stands-clause-fault
+returns-then-stands-clause-fault c =
+    let files = c.args.files.now in
+    let shown = c.args.shown.now in
+    let stands = c.requires.stands c.if-stands.true in
+    let done = c.follow_both.ensures in
+    not_compiled c.follow_both.result files c.args.text.now.from_c c.args.blanks false 0 shown files shown
+    (sym (stood_files files c.args.blanks shown stands)) (sym (stood_text c.args.blanks shown stands))
+    done.large done.in_range
 
 pub returns-clause-compiled : goal.returns-clause-compiled
 returns-clause-compiled c =
-    let done = c.replace.ensures in
-    replaced_so c.replace.result c.args.files.now c.args.blanks c.args.shown.now c.deref-else-eq.result.now
-    c.deref-else-eq-2.result.now c.args.text.now.from_c c.replace.new.self
-    (c.deref-else-eq.ensures.value ∙ c.in-Ok.ensures.files)
-    (c.deref-else-eq-2.ensures.value ∙ c.in-Ok.ensures.text) done.files done.text done.from_c done.before
-
-pub returns-clause-over : goal.returns-clause-over
-returns-clause-over c =
-    over_replaced c.replace.result c.args.text.now c.replace.new.self c.replace.ensures.over c.replace.ensures.same
-    c.requires
+    let done = c.follow_both-2.ensures in
+    followed_so c.follow_both-2.result c.args.files.now c.args.blanks c.args.shown.now c.deref.result.now
+    c.deref-2.result.now c.args.text.now.from_c c.follow_both-2.new.text
+    (c.deref.ensures.value ∙ c.in-Ok.ensures.files) (c.deref-2.ensures.value ∙ c.in-Ok.ensures.text) done.files
+    done.text done.from_c done.before
 
 pub returns-clause-fault : goal.returns-clause-fault
 returns-clause-fault c =
-    not_compiled c.replace.result c.args.files.now c.args.text.now.from_c c.args.blanks false 0 c.args.shown.now
-    c.deref-else-eq.result.now c.deref-else-eq-2.result.now (c.deref-else-eq.ensures.value ∙ c.in-Ok.ensures.files)
-    (c.deref-else-eq-2.ensures.value ∙ c.in-Ok.ensures.text) (λ e. merely (c.replace.ensures.large e)) c.replace.ensures.in_range
-
-pub returns-clause-base : goal.returns-clause-base
-returns-clause-base c =
-    text_same c.replace.new.self.session.base c.args.text.now.session.base c.requires c.replace.ensures.base
+    let done = c.follow_both-2.ensures in
+    not_compiled c.follow_both-2.result c.args.files.now c.args.text.now.from_c c.args.blanks false 0 c.args.shown.now
+    c.deref.result.now c.deref-2.result.now (c.deref.ensures.value ∙ c.in-Ok.ensures.files)
+    (c.deref-2.ensures.value ∙ c.in-Ok.ensures.text) done.large done.in_range

@@ -1,7 +1,7 @@
 use Rattle.std.proofs.Common.{◌∙◌, ap}
 use Rattle.std.proofs.lemmas.List.{take_all}
 use Rattle.x_explain.specs.Suggestions.{strange}
-use Rattle.x_explain.proofs.suggestions.strange.Goals as goal
+use Rattle.x_explain.proofs.likeness.strange.Goals as goal
 
 pub returns : goal.returns
 returns c =

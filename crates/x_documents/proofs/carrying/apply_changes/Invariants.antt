@@ -4,7 +4,7 @@ use Rattle.x_frames.specs.Params.{replacement_of}
 use Rattle.x_documents.specs.Changes.{changed_by_all}
 use Rattle.x_documents.specs.Noting.{Fit, IsStopped}
 use Rattle.x_positions.specs.Waymarks.{AreWaymarks}
-use Rattle.x_documents.proofs.document.apply_changes.Given as goal
+use Rattle.x_documents.proofs.carrying.apply_changes.Given as goal
 
 -- what is so of the changes that are left is so of all
 abbrev pub invariant-loop-change : goal.invariant-loop-change

@@ -1,0 +1,10 @@
+use Rattle.std.proofs.Common.{◌≡◌, ◌≤◌, take}
+use Rattle.x_explain.specs.Suggestions.{strange}
+use Rattle.x_explain.proofs.likeness.strange.Given as goal
+
+-- those of the bytes so far
+abbrev pub invariant-loop-byte : goal.invariant-loop-byte
+invariant-loop-byte l = record {
+  counted : l.count ≡ strange (take l.byte-index l.word) l.name;
+  few : l.count ≤ l.byte-index;
+}
