@@ -20,8 +20,7 @@ use x_session::EditFault;
 use x_text::Source;
 
 /// Carries changes of a text out, one after another, up to the first that is refused, and compiles what they
-/// leave, also where one is refused. Answers whether that is compiled as it stands, and takes whether the text
-/// was.
+/// leave, also where one is refused. Answers whether that is compiled as it stands, as is known of the text.
 pub(crate) fn carry_out(
     alloc: Global,
     shown: &mut Source,
@@ -72,7 +71,8 @@ fn carry_out_one(
     requires stood { IsAsItStands files.now blanks shown.old compiled.old }
     ensures text { OnOk result
         (shown.new ≡ edited_by (change_by marks.old.encoding shown.old (replacement_of change.now))) }
-    ensures fit { OnOk result (FitsText (change_by marks.old.encoding shown.old (replacement_of change.now))) }
+    ensures fit { OnOk result
+        (FitsText (change_by marks.old.encoding shown.old (replacement_of change.now))) }
     ensures followed { OnOk result (IsCompiled files.now blanks shown.new compiled.new) }
     ensures stands { IfOk result (λ stands. stands ≡ true → Stands blanks shown.new) }
     ensures fault { IfErr result (λ fault.

@@ -13,8 +13,8 @@ use x_positions::Waymarks;
 use x_session::EditFault;
 use x_text::{Edit, Source};
 
-/// Carries a change of a text out, by waymarks of it, which follow the change, and answers the edit that it is.
-/// After a fault the text is as before.
+/// Carries a change of a text out, by waymarks of it, which follow the change, and answers the edit that it
+/// is. After a fault the text is as before.
 pub fn apply_change<'c>(
     alloc: Global,
     text: &mut Source,

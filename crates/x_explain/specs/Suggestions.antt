@@ -1,7 +1,7 @@
 -- What an undeclared word may have been meant as.
-use Rattle.std.specs.Prelude.{◌≡◌, ◌<◌, ℕ, ◌-◌, ◌*◌, Bool, true, false, ◌&&◌, ◌||◌, ◌==◌, nat_le, nat_eq, List}
-use Rattle.std.specs.Prelude.{[], ◌∷◌, codes, length, map, take, slice_index_or, slice_range, Option, None}
-use Rattle.std.specs.Prelude.{Some}
+use Rattle.std.specs.Prelude.{◌≡◌, ◌<◌, ℕ, ◌-◌, ◌*◌, Bool, true, false, ◌&&◌, ◌||◌, ◌==◌, nat_le, nat_eq}
+use Rattle.std.specs.Prelude.{List, [], ◌∷◌, codes, length, map, take, slice_index_or, slice_range, Option}
+use Rattle.std.specs.Prelude.{None, Some}
 use Rattle.std.specs.Prelude.{option_and_then, option_map, if◌then◌else◌, not}
 use Rattle.std.specs.List.{filter, flat_map, list_any}
 use Rattle.std.specs.Map.{lookup}
