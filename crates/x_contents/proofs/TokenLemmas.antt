@@ -19,7 +19,7 @@ use Rattle.x_session.specs.Session.{Compiles}
 use Rattle.x_session.specs.ItemWalks.{over_items}
 use Rattle.x_positions.specs.Positions.{position_of}
 use Rattle.x_positions.specs.declared.encoding.Encoding.{Encoding}
-use Rattle.x_contents.specs.Tokens.{Told, ends_at, none_told, number_text, numbers_in, tokens_data, tokens_text, with_item, with_lines, with_part}
+use Rattle.x_contents.specs.Tokens.{Told, ends_at, none_told, number_text, numbers_in, tokens_data, tokens_text, with_item_tokens, with_lines, with_piece}
 use Rattle.x_contents.specs.declared.tokens.TokenKind.{TokenKind}
 
 -- ---- line by line
@@ -28,7 +28,7 @@ use Rattle.x_contents.specs.declared.tokens.TokenKind.{TokenKind}
 pub lines_more : (encoding : Encoding) (shown : List ℕ) (kind : TokenKind) (told : Told) (start end at : ℕ) → at < end
     → with_lines encoding shown kind told start end at (end - at)
     ≡ (if ends_at shown at
-    then with_lines encoding shown kind (with_part told (position_of encoding shown start) (position_of encoding shown at) kind) (at + 1) end (at + 1) (end - (at + 1))
+    then with_lines encoding shown kind (with_piece told (position_of encoding shown start) (position_of encoding shown at) kind) (at + 1) end (at + 1) (end - (at + 1))
     else with_lines encoding shown kind told start end (at + 1) (end - (at + 1)))
 lines_more encoding shown kind told start end at lt =
     let left : end - at ≡ suc (end - (at + 1)) = omega (arith, lt) in
@@ -36,7 +36,7 @@ lines_more encoding shown kind told start end at lt =
 
 -- its end
 pub lines_end : (encoding : Encoding) (shown : List ℕ) (kind : TokenKind) (told : Told) (start end at : ℕ) → end ≤ at
-    → with_lines encoding shown kind told start end at (end - at) ≡ with_part told (position_of encoding shown start) (position_of encoding shown end) kind
+    → with_lines encoding shown kind told start end at (end - at) ≡ with_piece told (position_of encoding shown start) (position_of encoding shown end) kind
 lines_end encoding shown kind told start end at le =
     let left : end - at ≡ 0 = omega (arith, le) in
     ap (with_lines encoding shown kind told start end at) left
@@ -53,7 +53,7 @@ fewer_words [] = omega arith
 fewer_words (t ∷ ts) = fewer_by (is_significant t.kind) t (words_in ts) ts (fewer_words ts)
 
 pub all_told : {known : KnownText} (text : List ℕ) (encoding : Encoding) (shown : List ℕ) (first : List ℕ → Option Declarer) (told : Told)
-    → Compiles known text (λ items. told ≡ over_items (with_item encoding shown first) none_told items)
+    → Compiles known text (λ items. told ≡ over_items (with_item_tokens encoding shown first) none_told items)
     → Compiles known text (λ items. (name : List ℕ) → first name ≡ first_declarer (definitions_of items) name)
     → Compiles known text (λ items. told.numbers ≡ numbers_in encoding shown items)
 all_told {known} text encoding shown first told c names =
@@ -62,7 +62,7 @@ all_told {known} text encoding shown first told c names =
       names.0,
       names.1,
       names.2,
-      ap (λ (t : Told). t.numbers) (c.3 ∙ (λ i. over_items (with_item encoding shown (first_is i)) none_told (same i))),
+      ap (λ (t : Told). t.numbers) (c.3 ∙ (λ i. over_items (with_item_tokens encoding shown (first_is i)) none_told (same i))),
     )
 
 -- ---- as they are written

@@ -87,9 +87,9 @@ with_uses first words kinds (m ∷ ms) =
     with_uses first words (with_kind kinds (slice_get words m.word) (kind_used first m.name)) ms
 
 -- the names of its parts
-abbrev pub with_parts : List (Option TokenKind) → List Part → List (Option TokenKind)
-with_parts kinds [] = kinds
-with_parts kinds (p ∷ ps) = with_parts (slice_set kinds p.name (Some (kind_of_part p.kind))) ps
+abbrev pub with_part_kinds : List (Option TokenKind) → List Part → List (Option TokenKind)
+with_part_kinds kinds [] = kinds
+with_part_kinds kinds (p ∷ ps) = with_part_kinds (slice_set kinds p.name (Some (kind_of_part p.kind))) ps
 
 -- what a token is in an item that has no definition: every name is used
 abbrev pub kind_unparsed : (first : List ℕ → Option Declarer) → Kind → (text : List ℕ) → Option TokenKind
@@ -100,7 +100,7 @@ kind_unparsed first kind text = kind_alone kind
 abbrev pub kinds_in : (first : List ℕ → Option Declarer) → List Lexeme → Option Definition
     → List (Option TokenKind)
 kinds_in first tokens None = map (λ t. kind_unparsed first t.kind t.text) tokens
-kinds_in first tokens (Some d) = with_parts (with_uses first (word_places 0 tokens)
+kinds_in first tokens (Some d) = with_part_kinds (with_uses first (word_places 0 tokens)
     (map (λ t. kind_alone t.kind) tokens) (mentioned d)) (parts_of tokens)
 
 -- the type of a token, by its place in the list of them that the server tells

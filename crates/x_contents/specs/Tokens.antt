@@ -35,8 +35,8 @@ pub record Told : Type 0 where
   pub before : Position
 
 -- what stands in a line from one position to another; nothing is told where that is nothing
-abbrev pub with_part : Told → (start end : Position) → TokenKind → Told
-with_part told start end kind = if end.character - start.character == 0 then told else
+abbrev pub with_piece : Told → (start end : Position) → TokenKind → Told
+with_piece told start end kind = if end.character - start.character == 0 then told else
     record { numbers = told.numbers ++ numbers_of told.before start end kind; before = start }
 
 -- a line ends at a place of a text
@@ -51,9 +51,9 @@ ends_at shown at = ends_here (drop at shown)
 -- `start`: it is told line by line.
 abbrev pub with_lines : Encoding → (shown : List ℕ) → TokenKind → Told → (start end at left : ℕ) → Told
 with_lines encoding shown kind told start end at zero =
-    with_part told (position_of encoding shown start) (position_of encoding shown end) kind
+    with_piece told (position_of encoding shown start) (position_of encoding shown end) kind
 with_lines encoding shown kind told start end at (suc left) = if ends_at shown at
-    then with_lines encoding shown kind (with_part told (position_of encoding shown start)
+    then with_lines encoding shown kind (with_piece told (position_of encoding shown start)
     (position_of encoding shown at) kind) (at + 1) end (at + 1) left
     else with_lines encoding shown kind told start end (at + 1) left
 
@@ -76,9 +76,9 @@ with_tokens encoding shown kinds told at (t ∷ ts) =
     (kind_if (slice_get kinds at))) (at + 1) ts
 
 -- the tokens of an item
-abbrev pub with_item : Encoding → (shown : List ℕ) → (first : List ℕ → Option Declarer) → Told → List Lexeme
+abbrev pub with_item_tokens : Encoding → (shown : List ℕ) → (first : List ℕ → Option Declarer) → Told → List Lexeme
     → Option Definition → Told
-with_item encoding shown first told tokens definition =
+with_item_tokens encoding shown first told tokens definition =
     with_tokens encoding shown (kinds_in first tokens definition) told 0 tokens
 
 abbrev pub none_told : Told
@@ -87,7 +87,7 @@ none_told = record { numbers = []; before = record { line = 0; character = 0 } }
 -- the numbers of the tokens of a text with these items, as it is shown
 abbrev pub numbers_in : Encoding → (shown : List ℕ) → List Item → List ℕ
 numbers_in encoding shown items =
-    (over_items (with_item encoding shown (first_declarer (definitions_of items))) none_told items).numbers
+    (over_items (with_item_tokens encoding shown (first_declarer (definitions_of items))) none_told items).numbers
 
 -- `SemanticTokens`
 abbrev pub tokens_data : (numbers : List ℕ) → Data

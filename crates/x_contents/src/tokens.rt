@@ -17,10 +17,10 @@ ghost use Rattle.x_frames.specs.ListTexts.{ended};
 ghost use Rattle.x_positions.specs.Positions.{position_of};
 ghost use Rattle.x_contents.specs.Reading.{told_of};
 ghost use Rattle.x_contents.specs.TokenKinds.{kind_alone, kind_declared, kind_of_part, kind_unparsed};
-ghost use Rattle.x_contents.specs.TokenKinds.{kind_used, kinds_in, with_kind, with_parts, with_uses};
+ghost use Rattle.x_contents.specs.TokenKinds.{kind_used, kinds_in, with_kind, with_part_kinds, with_uses};
 ghost use Rattle.x_contents.specs.TokenKinds.{word_places};
-ghost use Rattle.x_contents.specs.Tokens.{ends_at, kind_if, number_text, numbers_in, tokens_data, with_item};
-ghost use Rattle.x_contents.specs.Tokens.{with_lines, with_part, with_token, with_tokens};
+ghost use Rattle.x_contents.specs.Tokens.{ends_at, kind_if, number_text, numbers_in, tokens_data, with_item_tokens};
+ghost use Rattle.x_contents.specs.Tokens.{with_lines, with_piece, with_token, with_tokens};
 
 use std::alloc::Global;
 use x_frames::{end_list, write_number};
@@ -281,7 +281,7 @@ fn put_kind_at(kinds: &mut Vec<Option<TokenKind>>, place: Option<usize>, kind: O
 
 /// Tells what the parts of a definition are, at their names.
 fn put_parts(parts: &[Part], kinds: &mut Vec<Option<TokenKind>>)
-    ensures { kinds.new.items ≡ with_parts kinds.old.items parts.now }
+    ensures { kinds.new.items ≡ with_part_kinds kinds.old.items parts.now }
 {
     for part in parts {
         put_kind(kinds, part.name, Some(TokenKind::of_part(part.kind)));
@@ -339,7 +339,7 @@ impl ToldTokens<'_> {
     ) -> Result<(), NoMemory>
         requires { self.old.places.text ≡ shown.now }
         ensures { OnOk result (Compiles session.now.known session.now.text (λ items. told_of self.new
-            ≡ over_items (with_item self.old.places.encoding shown.now (first_in names.now))
+            ≡ over_items (with_item_tokens self.old.places.encoding shown.now (first_in names.now))
             (told_of self.old) items)) }
     {
         let mut walk = session.tokens();
@@ -364,7 +364,7 @@ impl ToldTokens<'_> {
         requires { self.old.places.text ≡ shown.now }
         ensures told { OnOk result ((parse : Parse) → IsParse (map lexeme tokens.now) parse
             → tree_at definition.entry ≡ parsed_definition parse
-            → told_of self.new ≡ with_item self.old.places.encoding shown.now (first_in names.now)
+            → told_of self.new ≡ with_item_tokens self.old.places.encoding shown.now (first_in names.now)
             (told_of self.old) (map lexeme tokens.now) (tree_at definition.entry)) }
         ensures places { self.new.places ≡ self.old.places }
     {
@@ -431,7 +431,7 @@ impl ToldTokens<'_> {
 
     /// Adds what stands of a token in one line, from a place to another; nothing where that is nothing.
     fn add_part(&mut self, start: usize, end: usize, kind: TokenKind) -> Result<(), NoMemory>
-        ensures told { OnOk result (told_of self.new ≡ with_part (told_of self.old)
+        ensures told { OnOk result (told_of self.new ≡ with_piece (told_of self.old)
             (position_of self.old.places.encoding self.old.places.text start)
             (position_of self.old.places.encoding self.old.places.text end) kind) }
         ensures places { self.new.places ≡ self.old.places }
