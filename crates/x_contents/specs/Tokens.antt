@@ -76,8 +76,8 @@ with_tokens encoding shown kinds told at (t ∷ ts) =
     (kind_if (slice_get kinds at))) (at + 1) ts
 
 -- the tokens of an item
-abbrev pub with_item_tokens : Encoding → (shown : List ℕ) → (first : List ℕ → Option Declarer) → Told → List Lexeme
-    → Option Definition → Told
+abbrev pub with_item_tokens : Encoding → (shown : List ℕ) → (first : List ℕ → Option Declarer) → Told
+    → List Lexeme → Option Definition → Told
 with_item_tokens encoding shown first told tokens definition =
     with_tokens encoding shown (kinds_in first tokens definition) told 0 tokens
 
@@ -87,7 +87,8 @@ none_told = record { numbers = []; before = record { line = 0; character = 0 } }
 -- the numbers of the tokens of a text with these items, as it is shown
 abbrev pub numbers_in : Encoding → (shown : List ℕ) → List Item → List ℕ
 numbers_in encoding shown items =
-    (over_items (with_item_tokens encoding shown (first_declarer (definitions_of items))) none_told items).numbers
+    let first = first_declarer (definitions_of items) in
+    (over_items (with_item_tokens encoding shown first) none_told items).numbers
 
 -- `SemanticTokens`
 abbrev pub tokens_data : (numbers : List ℕ) → Data

@@ -19,8 +19,8 @@ ghost use Rattle.x_contents.specs.Reading.{told_of};
 ghost use Rattle.x_contents.specs.TokenKinds.{kind_alone, kind_declared, kind_of_part, kind_unparsed};
 ghost use Rattle.x_contents.specs.TokenKinds.{kind_used, kinds_in, with_kind, with_part_kinds, with_uses};
 ghost use Rattle.x_contents.specs.TokenKinds.{word_places};
-ghost use Rattle.x_contents.specs.Tokens.{ends_at, kind_if, number_text, numbers_in, tokens_data, with_item_tokens};
-ghost use Rattle.x_contents.specs.Tokens.{with_lines, with_piece, with_token, with_tokens};
+ghost use Rattle.x_contents.specs.Tokens.{ends_at, kind_if, number_text, numbers_in, tokens_data};
+ghost use Rattle.x_contents.specs.Tokens.{with_item_tokens, with_lines, with_piece, with_token, with_tokens};
 
 use std::alloc::Global;
 use x_frames::{end_list, write_number};
