@@ -2,11 +2,10 @@
 use Rattle.std.proofs.Common.{◌≡◌, ◌∙◌, ◌<◌, ◌⊎◌, ◌++◌, ◌∷◌, [], ℕ, ℤ, Bool, true, false, List, cond, length, take, drop}
 use Rattle.std.proofs.Common.{ap, append-nil, inl, inr, map, refl, subst, sym}
 use Rattle.std.specs.List.{flat_map}
-use Rattle.std.specs.Prelude.{◌&&◌, ◌==◌, Result, Ok, Err, IfErr, IfOk, IsErrOf, OnOk, codes, not}
+use Rattle.std.specs.Prelude.{◌&&◌, ◌==◌, Result, Ok, Err, IfErr, IsErrOf, OnOk, codes, not}
 use Rattle.std.proofs.lemmas.List.Elements.{All-append, All-drop, All-take}
-use Rattle.serde_json.specs.Data.{Data}
 use Rattle.serde_json.specs.Written.{compact_text}
-use Rattle.x_text.specs.Edits.{Change, FitsText, Refuses, change_of, edited_by}
+use Rattle.x_text.specs.Edits.{FitsText, Refuses, change_of, edited_by}
 use Rattle.x_text.specs.Limits.{most_text}
 use Rattle.x_text.specs.declared.text.edit.Edit.{Edit}
 use Rattle.x_text.specs.declared.text.fault.TextFault.{TextFault}
@@ -15,13 +14,11 @@ use Rattle.x_compile.specs.Compile.{Item, places_of}
 use Rattle.x_session.specs.Foreign.{ForeignName}
 use Rattle.x_directives.specs.Blanked.{blanked}
 use Rattle.x_directives.specs.Branches.{in_later_branch}
-use Rattle.x_directives.specs.Conditionals.{conditionals}
 use Rattle.x_directives.specs.Constants.{defined}
 use Rattle.x_directives.proofs.BlankedLemmas.{no_hash}
 use Rattle.x_directives.proofs.BranchLemmas.{all_said}
 use Rattle.x_directives.proofs.PlainLemmas.{no_conditionals, no_constants, no_turns}
 use Rattle.x_prelude.specs.Before.{IsBefore, IsCrowded}
-use Rattle.x_prelude.specs.declared.definition.FromC.{FromC}
 use Rattle.x_prelude.specs.declared.followed.FollowedText.{FollowedText}
 use Rattle.x_frames.specs.Params.{Replacement}
 use Rattle.x_positions.specs.declared.encoding.Encoding.{Encoding}
@@ -40,7 +37,7 @@ use Rattle.x_documents.proofs.CompiledLemmas.{not_compiled}
 -- ---- what is compiled of them
 
 unmarked_same : (shown : List ℕ) → has_mark shown ≡ false → unmarked shown ≡ shown
-unmarked_same shown no = ap (λ t. cond t (codes "   " ++ drop 3 shown) shown) no
+unmarked_same shown none = ap (λ t. cond t (codes "   " ++ drop 3 shown) shown) none
 
 pub stood_text : (blanks : Bool) (shown : List ℕ) → Stands blanks shown → compiled_of blanks shown ≡ shown
 stood_text false shown stands = refl
@@ -74,7 +71,7 @@ stands_behind blanks old new edit had makes hash mark = record {
   no_mark = mark;
 }
 
-text_was : (files shown : List ℕ) (blanks : Bool) (text : FollowedText) → IsAsItStands files blanks shown text → text.session.text ≡ shown
+pub text_was : (files shown : List ℕ) (blanks : Bool) (text : FollowedText) → IsAsItStands files blanks shown text → text.session.text ≡ shown
 text_was files shown blanks text was = was.compiled.text_is ∙ stood_text blanks shown was.stands
 
 files_stay : (files shown new : List ℕ) (blanks : Bool) (text : FollowedText) → IsAsItStands files blanks shown text → Stands blanks new
@@ -124,7 +121,7 @@ pub one_stopped : {T : Type 0} (N : TextFault → Type 0) (r : Result T TextFaul
     → IfErr r (λ fault. IsStopped encoding text fault (change ∷ []) ⊎ N fault)
 one_stopped N (Ok x) encoding text change why = tt
 one_stopped N (Err e) encoding text change (inl refuses) = inl (inl refuses)
-one_stopped N (Err e) encoding text change (inr not) = inr not
+one_stopped N (Err e) encoding text change (inr other) = inr other
 
 -- ---- what is told of them
 

@@ -1,5 +1,5 @@
 mod ChosenLemmas
 mod HeardLemmas
 mod PlacedLemmas
-mod SilentLemmas
-mod ToldLemmas
+pub mod SilentLemmas
+pub mod ToldLemmas

@@ -11,6 +11,7 @@ use Rattle.x_published.specs.Diagnostics.{hints_of}
 use Rattle.x_documents.specs.Publishing.{IsPublishedOf}
 use Rattle.x_documents.specs.Grounds.{constants_of}
 use Rattle.x_documents.proofs.SaidLemmas.{no_memory_is_note, published_note}
+use Rattle.x_documents.proofs.StandLemmas.{published_alike}
 use Rattle.x_documents.proofs.document.OpenDocument.publish.Goals as goal
 
 pub returns-in-Ok-publish-clause-says : goal.returns-in-Ok-publish-clause-says
@@ -23,13 +24,14 @@ returns-in-Ok-publish-clause-says c =
     let from = d.compiled.from_c in
     let front = d.files.items ++ constants_of d.blanks d.shown in
     let names = view_all c.in-Ok.foreign.items in
+    let looked = c.has_lines.result in
     let published = subst (λ n. Compiles known text (λ items. IsPublishedOf d.client (string_bytes d.uri)
-    d.version d.blanks d.warns d.most (view_all n) d.shown text items said)) c.deref.ensures.value
-    (subst (λ s. Compiles known text (λ items. IsPublishedOf d.client (string_bytes d.uri) d.version d.blanks
+    d.version looked d.warns d.most (view_all n) d.shown text items said)) c.deref.ensures.value
+    (subst (λ s. Compiles known text (λ items. IsPublishedOf d.client (string_bytes d.uri) d.version looked
     d.warns d.most (view_all c.deref.result.now) s text items said)) c.bytes.ensures.text
-    (subst (λ u. Compiles known text (λ items. IsPublishedOf d.client u d.version d.blanks
+    (subst (λ u. Compiles known text (λ items. IsPublishedOf d.client u d.version looked
     d.warns d.most (view_all c.deref.result.now) c.bytes.result.now text items said)) c.as_str.ensures.value
-    (subst (λ v. Compiles known text (λ items. IsPublishedOf d.client c.as_str.result.now v d.blanks
+    (subst (λ v. Compiles known text (λ items. IsPublishedOf d.client c.as_str.result.now v looked
     d.warns d.most (view_all c.deref.result.now) c.bytes.result.now text items said))
     (to_z-of_z w64 d.version (search rules)) c.in-Ok-publish.ensures.said))) in
     let items = published.1 in
@@ -52,7 +54,8 @@ returns-in-Ok-publish-clause-says c =
                 names,
                 subst (λ f. AreForeign f from text items names) is.files_are
                     (of_each text (c.in-Ok.ensures over) published.0 items published.2),
-                published.3,
+                published_alike d.client (string_bytes d.uri) d.version d.blanks d.stands d.warns d.most names d.shown text
+                    items said looked c.has_lines.ensures (λ yes. (d.stood yes).stands) published.3,
               ),
             ),
       )),
@@ -63,7 +66,7 @@ returns-in-Ok-publish-clause-note c =
     let d = c.args.self.now in
     let of = c.in-Ok-publish.ensures.said.3 in
     published_note c.as_str.result.now _
-    (of.0 ++ hints_of d.blanks d.client.encoding c.bytes.result.now ++ of.1 ++ of.2)
+    (of.0 ++ hints_of c.has_lines.result d.client.encoding c.bytes.result.now ++ of.1 ++ of.2)
     c.in-Ok-publish.text.items of.6
 
 pub returns-in_default-clause-says : goal.returns-in_default-clause-says
