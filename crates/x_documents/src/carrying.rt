@@ -19,8 +19,12 @@ use x_prelude::FollowedText;
 use x_session::EditFault;
 use x_text::Source;
 
+/// How many bytes a change may put in that is carried out in what is compiled as the client sends it. For a
+/// longer one both texts are compared, since it may put back most of what it takes out.
+const MOST_PUT_IN: usize = 4096;
+
 /// Carries changes of a text out, one after another, up to the first that is refused, and compiles what they
-/// leave, also where one is refused. Answers whether that is compiled as it stands, as is known of the text.
+/// leave. Answers whether it is known that this is compiled as it stands, as it is known of the text or not.
 pub(crate) fn carry_out(
     alloc: Global,
     shown: &mut Source,
@@ -50,13 +54,22 @@ pub(crate) fn carry_out(
     ensures encoding { marks.new.encoding ≡ marks.old.encoding }
 {
     match changes {
-        [change] if stood => carry_out_one(alloc, shown, marks, compiled, files, blanks, change),
+        [change] if is_one_edit(stood, change) => {
+            carry_out_one(alloc, shown, marks, compiled, files, blanks, change)
+        }
         _ => carry_out_all(alloc, shown, marks, compiled, files, blanks, changes),
     }
 }
 
+/// Whether a change of a text that stands may be carried out as the same edit in what is compiled.
+fn is_one_edit(stood: bool, change: &TextChange) -> bool
+    ensures { result ≡ true → stood ≡ true }
+{
+    stood && change.text.len() <= MOST_PUT_IN
+}
+
 /// Carries out a change of a text that is compiled as it stands, and the same edit in what is compiled, where
-/// the text stands so still. Answers whether it does.
+/// it is known that the text stands so still. Answers whether it is.
 fn carry_out_one(
     alloc: Global,
     shown: &mut Source,
@@ -94,7 +107,8 @@ fn carry_out_one(
     Ok(false)
 }
 
-/// Carries changes of a text out, and compiles what they leave. Answers whether that stands as it is.
+/// Carries changes of a text out, and compiles what they leave, also where one is refused. Answers whether it
+/// is known that this is compiled as it stands.
 fn carry_out_all(
     alloc: Global,
     shown: &mut Source,

@@ -49,7 +49,8 @@ pub(crate) fn open_text(
     )
 }
 
-/// Whether nothing is blanked of a text with these fresh bytes, if none of the others is a `#`.
+/// Whether it is known that nothing is blanked of a text with these fresh bytes, where none of the others is a
+/// `#`.
 pub(crate) fn stands(blanks: bool, fresh: &[u8], text: &[u8]) -> bool
     ensures hash { result ≡ true → blanks ≡ true → HasNoHash fresh.now }
     ensures mark { result ≡ true → blanks ≡ true → has_mark text.now ≡ false }
@@ -57,7 +58,7 @@ pub(crate) fn stands(blanks: bool, fresh: &[u8], text: &[u8]) -> bool
     !blanks || (!has_mark(text) && has_no_hash(fresh))
 }
 
-/// Whether lines of cpp matter to what is told of a text, where these may be blanked.
+/// Whether lines of cpp may matter to what is told of a text.
 pub(crate) fn has_lines(blanks: bool, stands: bool) -> bool
     ensures { result ≡ (blanks && not stands) }
 {

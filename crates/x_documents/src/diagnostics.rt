@@ -40,7 +40,7 @@ use x_told::{chosen_faults, word_at};
 /// How many faults of a document are told, and what beside them.
 #[derive(Clone, Copy, Debug)]
 pub struct Hints<'n> {
-    /// Whether the lines of cpp are blanked: then those are told that begin branches, and in later branches
+    /// Whether lines of cpp may be blanked: then those are told that begin branches, and in later branches
     /// no fault that a name is declared twice, nor what follows from such faults alone.
     pub blanks: bool,
     /// The names that the text takes from C.

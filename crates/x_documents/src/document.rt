@@ -62,7 +62,7 @@ pub struct OpenDocument {
     marks: Waymarks,
     /// What was said of its faults last.
     messages: FaultMessages,
-    /// Whether the text is compiled, and as it stands: then an edit of it is one of what is compiled.
+    /// Whether it is known that the text is compiled, and as it stands: then an edit of it is one of that.
     stands: bool,
     /// Whether the text is the client's, and is compiled: no change was refused, or not understood, since it
     /// was sent whole.
@@ -171,7 +171,7 @@ impl OpenDocument {
     }
 
     /// Carries changes out, one after another, up to the first that is refused, and compiles what they leave,
-    /// also where one is refused.
+    /// if that is another text.
     fn carry_out(&mut self, alloc: Global, changes: &[TextChange]) -> Result<(), EditFault>
         requires { self.old.in_step ≡ false }
         ensures text { OnOk result (self.new.shown
