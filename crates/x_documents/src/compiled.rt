@@ -49,8 +49,8 @@ pub(crate) fn open_text(
     )
 }
 
-/// Whether it is known that nothing is blanked of a text with these fresh bytes, where none of the others is a
-/// `#`.
+/// Whether it is known that nothing is blanked of a text: one that has these fresh bytes, and no `#` beside
+/// them.
 pub(crate) fn stands(blanks: bool, fresh: &[u8], text: &[u8]) -> bool
     ensures hash { result ≡ true → blanks ≡ true → HasNoHash fresh.now }
     ensures mark { result ≡ true → blanks ≡ true → has_mark text.now ≡ false }
