@@ -172,3 +172,10 @@ by_items encoding shown told (i ∷ is) =
 pub symbols_text : (encoding : Encoding) (shown : List ℕ) (items : List Item)
     → ended (over_items (item_text encoding shown) no_text items) ≡ compact_text (array (items_of (symbols_in encoding shown items)))
 symbols_text encoding shown items = ap ended (by_items encoding shown [] items) ∙ list_ended (symbols_in encoding shown items)
+
+-- ---- a symbol as it is written
+
+-- one part more behind others
+pub part_more : (old parts more now next : List ℕ) → now ≡ old ++ parts → next ≡ now ++ more
+    → next ≡ old ++ (parts ++ more)
+part_more old parts more now next is step = step ∙ ap (λ l. l ++ more) is ∙ append_assoc old parts more

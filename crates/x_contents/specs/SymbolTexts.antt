@@ -12,6 +12,7 @@ use Rattle.x_lookups.specs.Parts.{parts_of}
 use Rattle.x_lookups.specs.declared.parts.Part.{Part}
 use Rattle.x_lookups.specs.declared.parts.PartKind.{PartKind}
 use Rattle.x_contents.specs.Symbols.{symbol_kind, with_definition}
+use Rattle.x_contents.specs.declared.symbols.Shown.{Shown}
 
 -- a list in which nothing stands yet
 abbrev pub no_text : List ℕ
@@ -32,6 +33,11 @@ abbrev pub range_text : Range → Range → List ℕ
 range_text first last =
     codes "{\"end\":" ++ position_text last.end ++ codes ",\"start\":" ++ position_text first.start
     ++ codes "}"
+
+-- the symbol that is shown so, with these symbols in it and a comma behind it
+abbrev pub shown_text : Shown → (children : List ℕ) → List ℕ
+shown_text shown children = symbol_text shown.kind (utf8_lossy shown.name.now)
+    (range_text shown.range shown.range) (range_text shown.selection shown.selection) children ++ codes ","
 
 -- the text of a part's symbol, with a comma behind it
 abbrev pub text_by : PartKind → (token : Option Lexeme) → (first name last : Option Range)

@@ -1,7 +1,6 @@
 //! What a document defines, as an outline shows it.
 
-ghost use Rattle.std.specs.Prelude.{◌≡◌, ◌++◌, codes, map, option_map, slice_get, IfOk, OnOk};
-ghost use Rattle.std.specs.Str.Lossy.{utf8_lossy};
+ghost use Rattle.std.specs.Prelude.{◌≡◌, ◌++◌, ℕ, List, map, option_map, slice_get, unwrap_or, IfOk, OnOk};
 ghost use Rattle.serde_json.specs.Data.{array};
 ghost use Rattle.serde_json.specs.View.{items_of};
 ghost use Rattle.serde_json.specs.Written.{compact_text};
@@ -11,8 +10,8 @@ ghost use Rattle.x_session.specs.Session.{Compiles};
 ghost use Rattle.x_lookups.specs.Parts.{parts_of};
 ghost use Rattle.x_contents.specs.Reading.{levels_of, outline_of};
 ghost use Rattle.x_contents.specs.Symbols.{children_in, is_below, last_of, left_in, symbol_kind, symbols_in};
-ghost use Rattle.x_contents.specs.Symbols.{token_range, with_definition, with_part, with_sibling};
-ghost use Rattle.x_contents.specs.SymbolTexts.{no_text, position_text, range_text, symbol_text, text_by};
+ghost use Rattle.x_contents.specs.Symbols.{token_range, with_definition, with_part, with_sibling, with_told};
+ghost use Rattle.x_contents.specs.SymbolTexts.{no_text, position_text, range_text, shown_text, text_by};
 ghost use Rattle.x_contents.specs.SymbolTexts.{text_of, with_text};
 
 use crate::string_text::write_string;
@@ -25,8 +24,8 @@ use x_positions::{Encoding, Places, Position, Range};
 use x_session::Session;
 use x_text::{NoMemory, Source};
 
-/// The room for the text of a symbol without those that stand in it. It grows where the name is long.
-const ROOM: usize = 256;
+/// The room for the text of the first symbols of a list. It grows where there are more.
+const ROOM: usize = 1024;
 
 /// What a document defines: a `DocumentSymbol` of each definition, with what stands in it.
 pub(crate) fn symbols(
@@ -119,16 +118,35 @@ fn write_part(
     ensures { OnOk result (outline_of levels.new text.new ≡ with_part no_text
         (text_of (map lexeme tokens.now) ranges.now) (outline_of levels.old text.old) part.now) }
 {
-    let mut children = children_of(alloc, levels, part.depth)?;
+    let Some(mut children) = take_level(levels, part.depth) else {
+        return write_told(alloc, tokens, ranges, part, b"[]", levels, text);
+    };
     end_list(&mut children)?;
-    let Some(symbol) = symbol_of(alloc, tokens, ranges, part, &children)? else {
+    write_told(alloc, tokens, ranges, part, &children, levels, text)
+}
+
+/// Writes the symbol of a part, with this list of those that stand in it.
+fn write_told(
+    alloc: Global,
+    tokens: &[Token],
+    ranges: &[Range],
+    part: &Part,
+    children: &[u8],
+    levels: &mut Vec<Level>,
+    text: &mut Vec<u8>,
+) -> Result<(), NoMemory>
+    ensures { OnOk result (outline_of levels.new text.new ≡ with_told no_text (outline_of levels.old text.old)
+        part.now.depth (text_by part.now.kind (slice_get (map lexeme tokens.now) part.now.name)
+        (slice_get ranges.now part.now.first) (slice_get ranges.now part.now.name)
+        (slice_get ranges.now part.now.last) children.now)) }
+{
+    let Some(shown) = shown_part(tokens, ranges, part) else {
         return Ok(());
     };
     if part.depth == 0 {
-        text.extend_from_slice(&symbol)?;
-        Ok(())
+        write_symbol(alloc, &shown, children, text)
     } else {
-        add_to_level(alloc, levels, part.depth, &symbol)
+        add_to_level(alloc, levels, part.depth, &shown, children)
     }
 }
 
@@ -139,18 +157,18 @@ struct Level {
     text: Vec<u8>,
 }
 
-/// Takes the text of what stands in a part at a depth.
-fn children_of(alloc: Global, levels: &mut Vec<Level>, depth: usize) -> Result<Vec<u8>, NoMemory>
-    ensures children { IfOk result
-        (λ text. text.items ≡ children_in no_text (levels_of levels.old.items) depth) }
-    ensures left { OnOk result (levels_of levels.new.items ≡ left_in (levels_of levels.old.items) depth) }
+/// Takes the text of what stands in a part at a depth, if there is any.
+fn take_level(levels: &mut Vec<Level>, depth: usize) -> Option<Vec<u8>>
+    ensures children { unwrap_or (option_map (λ text. text.items) result) no_text
+        ≡ children_in no_text (levels_of levels.old.items) depth }
+    ensures left { levels_of levels.new.items ≡ left_in (levels_of levels.old.items) depth }
 {
     if is_below(levels, depth) {
         if let Some(level) = levels.pop() {
-            return Ok(level.text);
+            return Some(level.text);
         }
     }
-    Ok(Vec::from_slice(alloc, b"[")?)
+    None
 }
 
 /// Whether the last symbols stand below a depth.
@@ -168,75 +186,92 @@ fn add_to_level(
     alloc: Global,
     levels: &mut Vec<Level>,
     depth: usize,
-    symbol: &[u8],
+    shown: &Shown,
+    children: &[u8],
 ) -> Result<(), NoMemory>
-    ensures { OnOk result
-        (levels_of levels.new.items ≡ with_sibling no_text (levels_of levels.old.items) depth symbol.now) }
+    ensures { OnOk result (levels_of levels.new.items ≡ with_sibling no_text (levels_of levels.old.items)
+        depth (shown_text shown.now children.now)) }
 {
-    let mut text = children_of(alloc, levels, depth.saturating_sub(1))?;
-    text.extend_from_slice(symbol)?;
+    let mut text = siblings_of(alloc, levels, depth.saturating_sub(1))?;
+    write_symbol(alloc, shown, children, &mut text)?;
     levels.push(Level { depth, text })?;
     Ok(())
 }
 
-/// The text of a part's symbol, with those that stand in it, and a comma behind it.
-fn symbol_of(
-    alloc: Global,
-    tokens: &[Token],
-    ranges: &[Range],
-    part: &Part,
-    children: &[u8],
-) -> Result<Option<Vec<u8>>, NoMemory>
-    ensures { IfOk result (λ found. option_map (λ text. text.items) found ≡ text_by part.now.kind
-        (slice_get (map lexeme tokens.now) part.now.name) (slice_get ranges.now part.now.first)
-        (slice_get ranges.now part.now.name) (slice_get ranges.now part.now.last) children.now) }
+/// Takes the text of what stands in a part at a depth: a list that goes on.
+fn siblings_of(alloc: Global, levels: &mut Vec<Level>, depth: usize) -> Result<Vec<u8>, NoMemory>
+    ensures children { IfOk result
+        (λ text. text.items ≡ children_in no_text (levels_of levels.old.items) depth) }
+    ensures left { OnOk result (levels_of levels.new.items ≡ left_in (levels_of levels.old.items) depth) }
 {
-    let Some(token) = tokens.get(part.name) else {
-        return Ok(None);
-    };
-    let Some(first) = ranges.get(part.first) else {
-        return Ok(None);
-    };
-    let Some(name) = ranges.get(part.name) else {
-        return Ok(None);
-    };
-    let Some(last) = ranges.get(part.last) else {
-        return Ok(None);
-    };
-    let range = Range {
-        start: first.start,
-        end: last.end,
-    };
-    Ok(Some(symbol_text(alloc, part.kind, token.text, &range, name, children)?))
+    match take_level(levels, depth) {
+        Some(text) => Ok(text),
+        None => first_list(alloc),
+    }
 }
 
-/// The text of a symbol of this name, with those that stand in it, and a comma behind it.
-fn symbol_text(
-    alloc: Global,
-    kind: PartKind,
-    name: &[u8],
-    range: &Range,
-    selection: &Range,
-    children: &[u8],
-) -> Result<Vec<u8>, NoMemory>
-    ensures { IfOk result (λ text. text.items ≡ symbol_text kind (utf8_lossy name.now)
-        (range_text range.now range.now) (range_text selection.now selection.now) children.now
-        ++ codes ",") }
+/// A list in which nothing stands yet, with room for the first.
+fn first_list(alloc: Global) -> Result<Vec<u8>, NoMemory>
+    ensures { IfOk result (λ text. text.items ≡ no_text) }
 {
-    let mut text = Vec::with_capacity(alloc, children.len().saturating_add(ROOM))?;
+    let mut text = Vec::with_capacity(alloc, ROOM)?;
+    text.push(b'[')?;
+    Ok(text)
+}
+
+/// A part as it is shown.
+#[derive(Drop)]
+struct Shown<'t> {
+    kind: PartKind,
+    name: &'t [u8],
+    range: Range,
+    /// That of its name.
+    selection: Range,
+}
+
+/// How a part is shown.
+fn shown_part<'t>(tokens: &[Token<'t>], ranges: &[Range], part: &Part) -> Option<Shown<'t>>
+    ensures { (children : List ℕ) → option_map (λ shown. shown_text shown children) result
+        ≡ text_by part.now.kind (slice_get (map lexeme tokens.now) part.now.name)
+        (slice_get ranges.now part.now.first) (slice_get ranges.now part.now.name)
+        (slice_get ranges.now part.now.last) children }
+{
+    let token = tokens.get(part.name)?;
+    let first = ranges.get(part.first)?;
+    let name = ranges.get(part.name)?;
+    let last = ranges.get(part.last)?;
+    Some(Shown {
+        kind: part.kind,
+        name: token.text,
+        range: Range {
+            start: first.start,
+            end: last.end,
+        },
+        selection: *name,
+    })
+}
+
+/// Writes a symbol, with this list of those that stand in it, and a comma behind it.
+fn write_symbol(
+    alloc: Global,
+    shown: &Shown,
+    children: &[u8],
+    text: &mut Vec<u8>,
+) -> Result<(), NoMemory>
+    ensures { OnOk result (text.new.items ≡ text.old.items ++ shown_text shown.now children.now) }
+{
     text.extend_from_slice(b"{\"children\":")?;
     text.extend_from_slice(children)?;
     text.extend_from_slice(b",\"kind\":")?;
-    write_number(&mut text, symbol_kind(kind))?;
+    write_number(text, symbol_kind(shown.kind))?;
     text.extend_from_slice(b",\"name\":")?;
-    write_string(alloc, name, &mut text)?;
+    write_string(alloc, shown.name, text)?;
     text.extend_from_slice(b",\"range\":")?;
-    write_range(&mut text, range)?;
+    write_range(text, &shown.range)?;
     text.extend_from_slice(b",\"selectionRange\":")?;
-    write_range(&mut text, selection)?;
-    text.extend_from_slice(b"}")?;
-    text.extend_from_slice(b",")?;
-    Ok(text)
+    write_range(text, &shown.selection)?;
+    text.extend_from_slice(b"},")?;
+    Ok(())
 }
 
 /// Writes a range.

@@ -1,16 +1,23 @@
 -- What undeclared words may have been meant as.
-use Rattle.std.proofs.Common.{◌≡◌, ℕ, zero, suc, ◌+◌, ◌-◌, ◌<◌, ◌≤◌, Bool, false, cond, Option, None, Some, List, [], ◌∷◌, ◌++◌, length, get_or, map, take, drop, refl, sym, ap, ◌∙◌, append_assoc, append-nil, arith}
+use Rattle.std.proofs.Common.{◌≡◌, ℕ, zero, suc, ◌+◌, ◌-◌, ◌<◌, ◌≤◌, Bool, false, cond, Option, None, Some, List, [], ◌∷◌, ◌++◌, length, get_or, map, take, drop, refl, sym, subst, ap, ◌∙◌, append_assoc, append-nil, arith}
 use Rattle.std.specs.Cow.{cow_slice_items}
 use Rattle.std.specs.Global.{Global}
-use Rattle.std.specs.List.{filter}
+use Rattle.std.specs.List.{filter, flat_map}
 use Rattle.std.specs.declared.borrow.CowSlice.{CowSlice}
 use Rattle.std.proofs.lemmas.List.{take_all}
 use Rattle.x_trees.specs.Collected.{view_name}
 use Rattle.x_trees.specs.Names.{Declared}
 use Rattle.x_trees.specs.declared.names.declared_name.DeclaredName.{DeclaredName}
 use Rattle.x_lists.proofs.ListLemmas.{drop_one, map_append}
+use Rattle.x_lex.specs.declared.kind.Kind.{Kind}
+use Rattle.x_trees.specs.Tree.{Definition}
+use Rattle.x_compile.specs.Compile.{IsCompilation, Item, definition_at, definitions_of}
+use Rattle.x_compile.specs.Known.{KnownText}
 use Rattle.x_compile.specs.declared.fault.FaultPlace.{FaultPlace}
-use Rattle.x_explain.specs.Suggestions.{is_unknown, nearest, is_nearer}
+use Rattle.x_session.specs.Session.{Compiles}
+use Rattle.x_session.proofs.DeclaredLemmas.{of_each}
+use Rattle.x_session.proofs.ItemsLeft.{item_at, none_left}
+use Rattle.x_explain.specs.Suggestions.{compared, is_nearer, is_unknown, names_in, nearest}
 
 -- ---- the first so many of a list
 
@@ -104,6 +111,82 @@ no_more (x ∷ xs) n is none = absurd (omega (arith, is, none))
 pub only_none : {X : Type 0} (o : Option X) → ((x : X) → o ≡ Some x → ⊥) → o ≡ None
 only_none None not = refl
 only_none (Some x) not = absurd (not x refl)
+
+-- ---- item by item
+
+-- the names so far, with those of the items that are left, are all that are compared
+pub record HasNames (known : KnownText) (text : List ℕ) (n : ℕ) (names : List (List ℕ)) : Type 0 where
+  pub tokens : List (Kind × ℕ)
+  pub items : List Item
+  pub compiles : IsCompilation known text tokens items
+  pub few : length names ≤ 1024
+  pub named : take 1024 (names ++ flat_map names_in (definitions_of (drop n items)))
+      ≡ compared (definitions_of items)
+
+pub names_none : {P : List Item → Type 0} {known : KnownText} (text : List ℕ) → Compiles known text P
+    → HasNames known text 0 []
+names_none text c = record { tokens = c.0; items = c.1; compiles = c.2; few = omega arith; named = refl }
+
+-- those of one item more
+pub names_more : {known : KnownText} (text : List ℕ) (n m count : ℕ) (d : Option Definition)
+    (names new : List (List ℕ)) → m ≡ n + 1 → n < count
+    → Compiles known text (λ items. count ≡ length items)
+    → Compiles known text (λ items. d ≡ definition_at items n) → HasNames known text n names
+    → length new ≤ 1024 → new ≡ take 1024 (names ++ names_in d) → HasNames known text m new
+names_more {known = known} text n m count d names new step lt many defined had few new_is =
+    let count_is = of_each text many had.tokens had.items had.compiles in
+    let at = item_at had.items n (omega (arith, lt, count_is)) had.compiles.are_parses in
+    let here = of_each text defined had.tokens had.items had.compiles ∙ at.definition in
+    let left = flat_map names_in (definitions_of (drop n had.items)) in
+    let rest = flat_map names_in (definitions_of (drop (suc n) had.items)) in
+    let split : left ≡ names_in d ++ rest =
+    ap (λ l. flat_map names_in (definitions_of l)) at.here ∙ ap (λ o. names_in o ++ rest) (sym here) in
+    let suc_is : suc n ≡ m = omega (arith, step) in
+    subst (λ k. HasNames known text k new) suc_is record {
+      tokens = had.tokens;
+      items = had.items;
+      compiles = had.compiles;
+      few = few;
+      named =
+          some_taken 1024 names new (names_in d) left rest (compared (definitions_of had.items)) new_is split
+          had.named;
+    }
+
+-- an item without a definition has none
+pub names_passed : {known : KnownText} (text : List ℕ) (n m count : ℕ) (names : List (List ℕ)) → m ≡ n + 1
+    → n < count → Compiles known text (λ items. count ≡ length items)
+    → Compiles known text (λ items. None ≡ definition_at items n) → HasNames known text n names
+    → HasNames known text m names
+names_passed text n m count names step lt many defined had =
+    names_more text n m count None names names step lt many defined had had.few
+    (sym (take_all 1024 names had.few) ∙ ap (take 1024) (sym (append-nil names)))
+
+-- no item is left
+pub names_all : {known : KnownText} (text : List ℕ) (n count : ℕ) (names : List (List ℕ)) → count ≤ n
+    → Compiles known text (λ items. count ≡ length items) → HasNames known text n names
+    → Compiles known text (λ items. names ≡ compared (definitions_of items))
+names_all text n count names le many had =
+    let count_is = of_each text many had.tokens had.items had.compiles in
+    let none = none_left had.items n (omega (arith, le, count_is)) in (
+      had.tokens,
+      had.items,
+      had.compiles,
+      all_taken 1024 names (flat_map names_in (definitions_of (drop n had.items)))
+          (compared (definitions_of had.items)) (ap (λ l. flat_map names_in (definitions_of l)) none) had.few
+          had.named,
+    )
+
+-- there are so many that none behind counts
+pub names_full : {known : KnownText} (text : List ℕ) (n : ℕ) (names : List (List ℕ)) → 1024 ≤ length names
+    → HasNames known text n names → Compiles known text (λ items. names ≡ compared (definitions_of items))
+names_full text n names full had =
+    let few = had.few in (
+      had.tokens,
+      had.items,
+      had.compiles,
+      take_front names (flat_map names_in (definitions_of (drop n had.items))) 1024 (omega (arith, full, few))
+          ∙ had.named,
+    )
 
 -- ---- undeclared words
 

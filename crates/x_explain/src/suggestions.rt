@@ -4,8 +4,7 @@ ghost use Rattle.std.specs.Cow.{cow_slice_items};
 ghost use Rattle.std.specs.Prelude.{◌≡◌, ◌≤◌, ◌++◌, IfOk, OnOk, length, map, option_map, take};
 ghost use Rattle.x_trees.specs.Names.{declared};
 ghost use Rattle.x_trees.specs.Spell.{IsShort};
-ghost use Rattle.x_trees.specs.View.{tree_at, view_definition};
-ghost use Rattle.x_names.specs.Declarers.{AreShort};
+ghost use Rattle.x_trees.specs.View.{view_definition};
 ghost use Rattle.x_compile.specs.Compile.{definitions_of, places_of};
 ghost use Rattle.x_session.specs.Session.{Compiles};
 ghost use Rattle.x_explain.specs.Found.{AreFound};
@@ -19,7 +18,7 @@ use crate::likeness::{Word, nearest};
 use std::alloc::Global;
 use std::borrow::CowSlice;
 use x_item::{Definition, declares};
-use x_session::{FaultCode, FaultPlace, RuleCode, Session, definitions};
+use x_session::{FaultCode, FaultPlace, RuleCode, Session};
 use x_text::NoMemory;
 
 /// For how many undeclared words of a text something is suggested.
@@ -122,21 +121,13 @@ fn compared_names(alloc: Global, session: &Session) -> Result<Vec<CowSlice<'_, u
 {
     // So many tokens fit, and no definition has more words.
     let _ = session.token_count();
-    let definitions = definitions(alloc, session)?;
-    compared(alloc, &definitions)
-}
-
-/// Those that definitions declare.
-fn compared<'d>(
-    alloc: Global,
-    definitions: &[Option<&'d Definition>],
-) -> Result<Vec<CowSlice<'d, u8>>, NoMemory>
-    ensures { IfOk result (λ names. AreShort (map tree_at definitions.now)
-        → map cow_slice_items names.items ≡ compared (map tree_at definitions.now)) }
-{
     let mut names = Vec::new(alloc);
-    for item in 0..definitions.len() {
-        if let Some(definition) = definitions[item] {
+    for item in 0..session.item_count() {
+        if names.len() >= MOST_NAMES {
+            // Nothing behind is looked at, however many definitions there are.
+            return Ok(names);
+        }
+        if let Some(definition) = session.definition(item) {
             add_names(alloc, &mut names, definition)?;
         }
     }

@@ -1,5 +1,5 @@
 -- How many items an edit moves: those that change are put in place from the first to the last.
-use Rattle.std.specs.Prelude.{◌≡◌, ◌≤◌, ℕ, ◌+◌, ◌-◌, nat_lt, List, [], ◌∷◌, ◌++◌, length, map}
+use Rattle.std.specs.Prelude.{◌≡◌, ℕ, ◌+◌, ◌-◌, nat_lt, List, [], ◌∷◌, ◌++◌, length, map}
 use Rattle.std.specs.Prelude.{Option, None, Some, if◌then◌else◌}
 use Rattle.std.specs.List.{filter}
 use Rattle.x_streams.specs.Counters.{raised}
@@ -62,12 +62,6 @@ moves seat (c ∷ cs) = distance seat c.from c.to + unchanged_between c.to cs
 abbrev pub seat_behind : ℕ → List Changed → ℕ
 seat_behind seat [] = seat
 seat_behind seat (c ∷ cs) = seat_behind c.end cs
-
--- So many entries at the most lie between the seat and the first that changes, and as many unchanged ones
--- between the first and the last that change.
-abbrev pub AreNear : ℕ → ℕ → List Changed → Type 0
-AreNear reach seat [] = Unit {0}
-AreNear reach seat (c ∷ cs) = (distance seat c.from c.to ≤ reach) × (unchanged_between c.to cs ≤ reach)
 
 -- ---- while it is carried out
 

@@ -1,9 +1,9 @@
 -- Answers and lists, as they are written.
-use Rattle.std.proofs.Common.{◌≡◌, ◌-◌, ℕ, true, List, [], ◌∷◌, ◌++◌, length, take, Some, refl, ap, sym, ◌∙◌, append_assoc, arith}
+use Rattle.std.proofs.Common.{◌≡◌, ◌-◌, ℕ, true, List, [], ◌∷◌, ◌++◌, length, drop, take, Some, refl, ap, sym, ◌∙◌, append_assoc, arith}
 use Rattle.std.specs.Prelude.{codes, slice_get}
 use Rattle.std.specs.List.{flat_map}
 use Rattle.std.proofs.lemmas.List.{length-append}
-use Rattle.std.proofs.Math.Seq.{take-append_seam}
+use Rattle.std.proofs.Math.Seq.{drop-append_seam, take-append_seam}
 use Rattle.serde_json.specs.Data.{Data, array}
 use Rattle.serde_json.specs.View.{items_of}
 use Rattle.serde_json.specs.Written.{compact_text, items_text}
@@ -79,3 +79,23 @@ list_ended (d ∷ ds) =
     ∙ sym (append_assoc (compact_text d) (front_of ds) (44 ∷ []))) in
     ap ended whole ∙ comma_ended front
     ∙ ap (λ l. 91 ∷ l) (append_assoc (compact_text d) (front_of ds) (93 ∷ []) ∙ ap (λ l. compact_text d ++ l) (sym (front_end ds)))
+
+-- ---- what stands in front of a result was put behind it
+
+turned : (found front : List ℕ) (n : ℕ) → n ≡ length found
+    → drop n (found ++ front) ++ take n (found ++ front) ≡ front ++ found
+turned found front n is =
+    ap (λ k. drop k (found ++ front) ++ take k (found ++ front)) is
+    ∙ (λ i. drop-append_seam found front i ++ take-append_seam found front i)
+
+pub answered : (id found one two three turned_text all : List ℕ) (n : ℕ) → n ≡ length found
+    → one ≡ found ++ codes "{\"id\":" → two ≡ one ++ id
+    → three ≡ two ++ codes ",\"jsonrpc\":\"2.0\",\"result\":"
+    → turned_text ≡ drop n three ++ take n three → all ≡ turned_text ++ codes "}" → all ≡ answer_text id found
+answered id found one two three turned_text all n is first second third turn last =
+    let front = codes "{\"id\":" ++ id ++ codes ",\"jsonrpc\":\"2.0\",\"result\":" in
+    let behind : three ≡ found ++ front =
+    third ∙ ap (λ l. l ++ codes ",\"jsonrpc\":\"2.0\",\"result\":") (second ∙ ap (λ l. l ++ id) first)
+    ∙ ap (λ l. l ++ codes ",\"jsonrpc\":\"2.0\",\"result\":") (append_assoc found (codes "{\"id\":") id)
+    ∙ append_assoc found (codes "{\"id\":" ++ id) (codes ",\"jsonrpc\":\"2.0\",\"result\":") in
+    last ∙ ap (λ l. l ++ codes "}") (turn ∙ ap (λ l. drop n l ++ take n l) behind ∙ turned found front n is)

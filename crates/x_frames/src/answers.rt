@@ -121,18 +121,19 @@ pub fn result_text(alloc: Global, found: &Value) -> Result<Vec<u8>, ErrorCode>
 }
 
 /// The answer to the request with this id, whose result has this text.
-pub fn answer(alloc: Global, id: &Value, found: &[u8]) -> Result<Vec<u8>, AllocError>
+pub fn answer(alloc: Global, id: &Value, mut found: Vec<u8>) -> Result<Vec<u8>, AllocError>
     requires { has_float (view id.now) ≡ false }
-    ensures { IfOk result (λ text. text.items ≡ answer_text (compact_text (view id.now)) found.now) }
+    ensures { IfOk result (λ text. text.items ≡ answer_text (compact_text (view id.now)) found.items) }
 {
     let id = id.to_vec(alloc)?;
-    let mut text = Vec::new(alloc);
-    text.extend_from_slice(b"{\"id\":")?;
-    text.extend_from_slice(&id)?;
-    text.extend_from_slice(b",\"jsonrpc\":\"2.0\",\"result\":")?;
-    text.extend_from_slice(found)?;
-    text.push(b'}')?;
-    Ok(text)
+    let count = found.len();
+    found.extend_from_slice(b"{\"id\":")?;
+    found.extend_from_slice(&id)?;
+    found.extend_from_slice(b",\"jsonrpc\":\"2.0\",\"result\":")?;
+    // What stands in front of the result was put behind it: so a long result is not copied to another place.
+    found.rotate_left(count);
+    found.push(b'}')?;
+    Ok(found)
 }
 
 /// The answer that refuses the request with this id.

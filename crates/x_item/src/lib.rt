@@ -11,7 +11,7 @@ pub use laws::{one_parse, spell_law};
 pub use x_cutting::{ItemEntry, ItemPatch, Items, cut, next_item, one_cut, one_recut, recut};
 pub use x_parser::{FaultCode, is_significant};
 pub use x_trees::{
-    Argument, Arm, BASIC_MARKS, Basic, Body, DataType, Declaration, DeclaredName, Definition,
-    Enumerator, Glossary, Length, MOST_INLINE, Mention, NameKind, Procedure, Shape, Spelling, Tag,
-    UnionBody, Use, Value, Version, declares, gloss_law, lifted_name, mentions,
+    Argument, Arm, Basic, Body, DataType, Declaration, DeclaredName, Definition, Enumerator,
+    Glossary, Length, MOST_INLINE, Mention, NameKind, Procedure, Shape, Spelling, Tag, UnionBody,
+    Use, Value, Version, declares, gloss_law, lifted_name, mentions,
 };

@@ -69,14 +69,14 @@ before_front (k ∷ ks) rest limit n h = ap (λ r. cond (bytes_eq n k.enumerator
 -- ---- an enumerator
 
 -- what an item's enumerators are checked by
-record AtText (definitions : List (Option Definition)) (results : List (Option Outcome)) (item : ℕ) (d : Definition) : Type 0 where
-  are : AreResults no_names definitions results
-  fine : AreFaultless results
-  there : slice_get definitions item ≡ Some (Some d)
+pub record AtText (definitions : List (Option Definition)) (results : List (Option Outcome)) (item : ℕ) (d : Definition) : Type 0 where
+  pub are : AreResults no_names definitions results
+  pub fine : AreFaultless results
+  pub there : slice_get definitions item ≡ Some (Some d)
   -- it is no `const`
-  own : (m : List ℕ) → own_number d (sees definitions results item d) m ≡ number_named (knowns (sees definitions results item d) (enumerators d)) m
+  pub own : (m : List ℕ) → own_number d (sees definitions results item d) m ≡ number_named (knowns (sees definitions results item d) (enumerators d)) m
 
-own_told : (definitions : List (Option Definition)) (results : List (Option Outcome)) (item : ℕ) (d : Definition) (e : EnumeratorAt) → AtText definitions results item d → IsTold (gloss d) 0 e
+pub own_told : (definitions : List (Option Definition)) (results : List (Option Outcome)) (item : ℕ) (d : Definition) (e : EnumeratorAt) → AtText definitions results item d → IsTold (gloss d) 0 e
     → IsOwn definitions item e.name e.word
 own_told definitions results item d e h told =
     let place = told_declared d e told in

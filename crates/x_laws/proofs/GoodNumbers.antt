@@ -95,7 +95,7 @@ by_first definitions results item n at before x are fine h own false false v =
     before_true true e = refl
     before_true false e = absurd cc
 
-value_known : (definitions : List (Option Definition)) (results : List (Option Outcome)) (item : ℕ) (n : List ℕ) (before : Bool) (x : Option ℤ) → AreResults no_names definitions results → AreFaultless results
+pub value_known : (definitions : List (Option Definition)) (results : List (Option Outcome)) (item : ℕ) (n : List ℕ) (before : Bool) (x : Option ℤ) → AreResults no_names definitions results → AreFaultless results
     → IsValue (view_by no_names definitions (result_at results) item n) before → (before ≡ true → IsNumber x) → IsNumber (number_seen (view_by no_names definitions (result_at results) item n) x)
 value_known definitions results item n before x are fine v own = by (is_beforehand n) refl (first_from 0 definitions n) refl
   where
@@ -150,7 +150,7 @@ record IsReached (definitions : List (Option Definition)) (results : List (Optio
   up : Ascends word (map (λ k. k.enumerator) rest)
   good : AllGood ks
 
-spelled : (text : List ℕ) → in_range text ≡ true → IsNumber (number_spelled text)
+pub spelled : (text : List ℕ) → in_range text ≡ true → IsNumber (number_spelled text)
 spelled text e = (value text, ap (λ b. cond b (Some (value text)) None) e)
 
 named_number : (definitions : List (Option Definition)) (results : List (Option Outcome)) (item : ℕ) (d : Definition) (ks rest : List Known) (index word : ℕ) (n : List ℕ)

@@ -3,6 +3,8 @@ pub mod AlikeProcedures
 pub mod AlikeSchemas
 pub mod AlikeValues
 pub mod BodyNames
+pub mod EachNumber
+pub mod EachProcedure
 pub mod EnumNumbers
 pub mod EnumWords
 pub mod Faultless

@@ -1,12 +1,16 @@
 -- Where a text has no fault, none of its results has one.
-use Rattle.std.proofs.Common.{◌≡◌, ℕ, zero, suc, List, [], ◌∷◌, ◌++◌, map, Some, refl, sym, ap, ◌∙◌}
+use Rattle.std.proofs.Common.{◌≡◌, ℕ, zero, suc, Bool, true, false, cond, List, [], ◌∷◌, ◌++◌, map, Option, None, Some, option_map, refl, sym, ap, subst, ◌∙◌}
 use Rattle.std.proofs.lemmas.Option.{same_Some}
 use Rattle.x_item.specs.Parse.{Parse, Nothing, Def, Fault}
 use Rattle.x_lex.specs.Places.{Lexeme}
-use Rattle.x_rules.specs.Results.{Outcome}
+use Rattle.x_names.specs.Declarers.{first_declarer, is_beforehand}
+use Rattle.x_names.specs.declared.names.Declarer.{Declarer}
+use Rattle.x_rules.specs.Results.{AreResults, Outcome, meaning_at, no_names, result_at}
+use Rattle.x_rules.specs.Views.{Earlier}
 use Rattle.x_rules.specs.declared.fault.WordFault.{WordFault}
-use Rattle.x_compile.specs.Compile.{Item, at_token, faults_at, faults_from, faults_of, item_faults, placed, rule_faults, token_faults}
-use Rattle.x_laws.specs.Meant.{AreFaultless}
+use Rattle.x_compile.specs.Compile.{Item, at_token, definitions_of, faults_at, faults_from, faults_of, item_faults, placed, rule_faults, token_faults}
+use Rattle.x_compile.specs.Known.{known_names, nothing_known}
+use Rattle.x_laws.specs.Meant.{AreFaultless, IsFaultless}
 
 front_empty : {X : Type 0} (xs ys : List X) → xs ++ ys ≡ [] → xs ≡ []
 front_empty [] ys e = refl
@@ -37,3 +41,33 @@ faultless text index (i ∷ is) none (suc item) o there =
 
 pub faultless_results : (text : List ℕ) (items : List Item) → faults_of text items ≡ [] → AreFaultless (map (λ i. i.result) items)
 faultless_results text items none = faultless text 0 items none
+
+-- ---- where nothing is known before a text
+
+-- no item declares a name where there is none
+none_first : (name : List ℕ) → first_declarer [] name ≡ None
+none_first name = by (is_beforehand name)
+  where
+    none : Option Declarer
+    none = None
+
+    by : (b : Bool) → cond b none none ≡ None
+    by true = refl
+    by false = refl
+
+pub nothing_is_known : known_names nothing_known ≡ no_names
+nothing_is_known =
+    λ i name. ap (option_map (λ (at : Declarer). Earlier at.kind at.lifted (meaning_at (result_at []) at))) (none_first name) i
+
+-- ---- a text without a fault
+
+-- what the laws of its items rest on
+pub record HasNoFault (items : List Item) : Type 0 where
+  pub are : AreResults no_names (definitions_of items) (map (λ i. i.result) items)
+  pub fine : AreFaultless (map (λ i. i.result) items)
+
+pub without_fault : (text : List ℕ) (items : List Item) → IsFaultless text items → HasNoFault items
+without_fault text items h = record {
+  are = subst (λ k. AreResults k (definitions_of items) (map (λ i. i.result) items)) nothing_is_known h.compiles.are_results;
+  fine = faultless_results text items h.none;
+}

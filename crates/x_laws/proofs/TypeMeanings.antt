@@ -44,7 +44,7 @@ abbrev IsKnown : Option Class → Type 0
 IsKnown o = (c : Class) × (o ≡ Some c)
 
 -- one of these that has the name of an enumerator has a number that an enum may have
-named_good : (ks : List Known) (e : EnumeratorAt) → AllGood ks → IsAmong (map (λ k. k.enumerator) ks) e → IsGood (number_named ks e.name)
+pub named_good : (ks : List Known) (e : EnumeratorAt) → AllGood ks → IsAmong (map (λ k. k.enumerator) ks) e → IsGood (number_named ks e.name)
 named_good [] e good h = absurd (among_none e h)
 named_good (k ∷ ks) e good h = by (bytes_eq e.name k.enumerator.name) refl (among_cases k.enumerator e (map (λ x. x.enumerator) ks) h) (λ x. named_good ks e good.1 x)
   where

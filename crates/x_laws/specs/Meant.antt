@@ -1,22 +1,30 @@
 -- What names mean in a text without a fault, before which nothing is known, by who declares them first and
 -- what checking that item gives.
-use Rattle.std.specs.Prelude.{◌≡◌, ℕ, ℤ, Bool, true, List, [], ◌∷◌, length, map, Option, Some, None}
+use Rattle.std.specs.Prelude.{◌≡◌, ◌<◌, ◌^◌, ℕ, ℤ, pos, Bool, true, List, [], ◌∷◌, ◌++◌, length, map}
+use Rattle.std.specs.Prelude.{Option, Some, None}
 use Rattle.std.specs.Prelude.{slice_get, option_and_then}
 use Rattle.std.specs.List.{IsAmong}
+use Rattle.x_lex.specs.declared.kind.Kind.{Kind}
 use Rattle.x_trees.specs.Declarations.{name_of}
 use Rattle.x_trees.specs.Mentions.{Mention, mentioned}
-use Rattle.x_trees.specs.Tree.{Declaration, Definition, Enumerator}
+use Rattle.x_trees.specs.Tree.{Declaration, Definition, Enumerator, Procedure}
 use Rattle.x_trees.specs.declared.names.mention.Use.TheVariants as uses
 use Rattle.x_names.specs.Declarers.{IsFirstDeclarer}
 use Rattle.x_names.specs.declared.names.Declarer.{Declarer}
+use Rattle.x_numbers.specs.Numbers.{is_enum_number}
 use Rattle.x_rules.specs.Mentioned.{suits}
 use Rattle.x_rules.specs.Constants.{number_seen}
 use Rattle.x_rules.specs.Results.{Outcome, result_at, view_by, no_names}
 use Rattle.x_rules.specs.Views.{View, Class, Earlier, OfType, seen}
 use Rattle.x_trees.specs.declared.names.declared_name.NameKind.{NameKind}
 use Rattle.x_trees.specs.Seen.{names_of}
-use Rattle.x_schema.specs.Schema.{Schema}
+use Rattle.x_compile.specs.Compile.{IsCompilation, Item, faults_of}
+use Rattle.x_compile.specs.Known.{nothing_known}
+use Rattle.x_schema.specs.ProceduresOf.{IsProcedure, Numbered, numbers_by, procedures_of}
+use Rattle.x_schema.specs.Schema.{Schema, procedure_at}
 use Rattle.x_schema.specs.SchemaOf.{Known, IsDeclared, numbers_of, signed_word, typedefs, with_word}
+use Rattle.x_schema.specs.declared.procedure.CompactProcedure.{CompactProcedure}
+use Rattle.x_schema.specs.declared.procedure.ProcedureNumbers.{ProcedureNumbers}
 
 -- none of the results has a fault
 abbrev pub AreFaultless : List (Option Outcome) → Type 0
@@ -81,3 +89,36 @@ abbrev pub words_meant : (List ℕ → Option ℤ) → List (ℕ × List ℕ) �
 words_meant meant words [] = words
 words_meant meant words (e ∷ es) =
     words_meant meant (with_word words (option_and_then signed_word (meant e.name)) e.name) es
+
+-- ---- a text
+
+-- These are the items of the text, before which nothing is known, and it has no fault.
+pub record IsFaultless (text : List ℕ) (items : List Item) : Type 0 where
+  pub tokens : List (Kind × ℕ)
+  pub compiles : IsCompilation nothing_known text tokens items
+  pub none : faults_of text items ≡ []
+
+-- it is a number from 0 to 2^32-1
+abbrev pub IsSizeNumber : Option ℤ → Type 0
+IsSizeNumber number = (n : ℕ) × (n < 2 ^ 32) × (number ≡ Some (pos n))
+
+-- it is a number from -2^31 to 2^31-1
+abbrev pub IsEnumNumber : Option ℤ → Type 0
+IsEnumNumber number = (z : ℤ) × (number ≡ Some z) × (is_enum_number z ≡ true)
+
+-- ---- procedures
+
+-- the procedure has these numbers, and none before it in the text has them
+pub record IsFirstOfNumbers (definitions : List (Option Definition)) (p : Numbered)
+    (numbers : ProcedureNumbers) : Type 0 where
+  pub front : List Numbered
+  pub rear : List Numbered
+  pub parts : procedures_of definitions ≡ front ++ p ∷ rear
+  pub numbers_are : numbers_by p ≡ Some numbers
+  pub none_before : (q : Numbered) → IsAmong front q → numbers_by q ≡ Some numbers → ⊥
+
+-- the schema has, for these numbers, what is declared of the procedure
+pub record HasProcedure (s : Schema) (numbers : ProcedureNumbers) (p : Procedure) : Type 0 where
+  pub kept : CompactProcedure
+  pub found : procedure_at s numbers ≡ Some kept
+  pub is_procedure : IsProcedure s p kept

@@ -10,11 +10,12 @@ ghost use Rattle.x_text.specs.Limits.{most_text};
 ghost use Rattle.x_lex.specs.declared.kind.Kind.{Kind};
 ghost use Rattle.x_trees.specs.Gloss.{Role};
 ghost use Rattle.x_trees.specs.Tree.{Definition, Enum, Enumerator, Value};
-ghost use Rattle.x_outline.specs.Bodies.{BodyAt, bodies, enumerators};
+ghost use Rattle.x_outline.specs.Bodies.{BodyAt, EnumeratorAt, bodies, enumerators};
 ghost use Rattle.x_rules.specs.Constants.{number_at};
 ghost use Rattle.x_rules.specs.Results.{Outcome, AreResults, no_names};
-ghost use Rattle.x_rules.specs.Rules.{HasRole, value_role};
+ghost use Rattle.x_rules.specs.Rules.{HasRole, size_role, value_role};
 ghost use Rattle.x_rules.specs.declared.fault.RuleCode.TheVariants.{Unknown};
+ghost use Rattle.x_schema.specs.ProceduresOf.{Numbered, numbers_by, procedures_of};
 ghost use Rattle.x_schema.specs.Schema.{Schema, IsProcedureAt, id_named, named_type};
 ghost use Rattle.x_schema.specs.SchemaOf.{number_in, numbers_of, words_from};
 ghost use Rattle.x_schema.specs.Schemas.{IsSchemaOf};
@@ -24,7 +25,7 @@ ghost use Rattle.x_schema.specs.declared.procedure.ProcedureNumbers.{ProcedureNu
 ghost use Rattle.x_value.specs.Dumps.{IsShown};
 ghost use Rattle.x_value.specs.Shown.{Node};
 ghost use Rattle.x_script.specs.Answers.{Answer};
-ghost use Rattle.x_compile.specs.Compile.{Item, IsCompilation, faults_of};
+ghost use Rattle.x_compile.specs.Compile.{Item, IsCompilation, definitions_of, faults_of};
 ghost use Rattle.x_compile.specs.Known.{KnownText, known_names, nothing_known};
 ghost use Rattle.x_compile.specs.declared.fault.FaultCode.TheVariants.{Rule};
 ghost use Rattle.x_prelude.specs.Before.{IsBefore};
@@ -37,7 +38,8 @@ ghost use Rattle.x_wire.specs.MessageTexts.{Told};
 ghost use Rattle.x_wire.specs.StreamTexts.{IsStreamText, IsTextOf};
 ghost use Rattle.x_opening.specs.Opening.{AreRead};
 ghost use Rattle.x_opening.specs.declared.known.KnownSource.{KnownSource};
-ghost use Rattle.x_laws.specs.Meant.{AreFaultless, IsAsDeclared, IsTypeName, IsUsedAsType, MeansType};
+ghost use Rattle.x_laws.specs.Meant.{AreFaultless, HasProcedure, IsAsDeclared, IsEnumNumber, IsFaultless};
+ghost use Rattle.x_laws.specs.Meant.{IsFirstOfNumbers, IsSizeNumber, IsTypeName, IsUsedAsType, MeansType};
 ghost use Rattle.x_laws.specs.Meant.{number_meant, sees, words_meant};
 ghost use Rattle.x_laws.specs.Places.{IsShownAt, PlacedNode, ShowsSlice};
 ghost use Rattle.x_laws.specs.Showing.{ShowsAlike, CallsAlike};
@@ -122,6 +124,36 @@ pub fn schema_numbers()
         ≡ words_meant (number_meant definitions results) [] es }
 {}
 
+/// In a text without a fault, before which nothing is known, each value, size and case has a number, by which
+/// the text's types are made (`values`); that of a size is one from 0 to 2^32-1 (`sizes`), and that of each
+/// enumerator one from -2^31 to 2^31-1 (`enumerators`).
+pub fn each_number()
+    ensures values { (text : List ℕ) (items : List Item) → IsFaultless text items → (item : ℕ)
+        (d : Definition) → slice_get (definitions_of items) item ≡ Some (Some d) → (word : ℕ) (role : Role)
+        (v : Value) → HasRole d word role → value_role role ≡ Some v
+        → IsSome (number_in (numbers_of (definitions_of items)) v) }
+    ensures sizes { (text : List ℕ) (items : List Item) → IsFaultless text items → (item : ℕ)
+        (d : Definition) → slice_get (definitions_of items) item ≡ Some (Some d) → (word : ℕ) (role : Role)
+        (v : Value) → HasRole d word role → size_role role ≡ Some v
+        → IsSizeNumber (number_in (numbers_of (definitions_of items)) v) }
+    ensures enumerators { (text : List ℕ) (items : List Item) → IsFaultless text items → (item : ℕ)
+        (d : Definition) → slice_get (definitions_of items) item ≡ Some (Some d) → (e : EnumeratorAt)
+        → IsAmong (enumerators d) e
+        → IsEnumNumber (lookup (bytes_eq e.name) (numbers_of (definitions_of items))) }
+{}
+
+/// In a text without a fault, before which nothing is known, each procedure has its three numbers, of 32 bits
+/// (`numbers`). A schema has, for three numbers, what is declared of the first procedure of the text that has
+/// them (`first`).
+pub fn each_procedure()
+    ensures numbers { (text : List ℕ) (items : List Item) → IsFaultless text items → (p : Numbered)
+        → IsAmong (procedures_of (definitions_of items)) p
+        → (numbers : ProcedureNumbers) × (numbers_by p ≡ Some numbers) }
+    ensures first { (definitions : List (Option Definition)) (s : Schema) → IsSchemaOf definitions s
+        → (p : Numbered) (numbers : ProcedureNumbers) → IsFirstOfNumbers definitions p numbers
+        → HasProcedure s numbers p.procedure }
+{}
+
 /// In a text without a fault, before which nothing is known, the type of each name is as the name's first
 /// declarer declares it, and a name in it, by value or behind a link, leads to the type of that name; each
 /// name that is used as a type has one.
@@ -133,6 +165,25 @@ pub fn schema_targets()
     ensures uses { (definitions : List (Option Definition)) (results : List (Option Outcome)) (s : Schema)
         → AreResults no_names definitions results → AreFaultless results → IsSchemaOf definitions s
         → (name : List ℕ) → IsUsedAsType definitions name → IsSome (id_named s name) }
+{}
+
+/// The laws above, of a text that was compiled without a fault, before which nothing is known, and of its
+/// schema: it has the types that the text's names declare (`types`), each as the name's first declarer
+/// declares it (`forms`), and one of each name that is used as a type (`uses`); its numbers are those that
+/// names mean by the rules (`numbers`).
+pub fn types_of_text()
+    ensures types { (text : List ℕ) (items : List Item) (s : Schema) → IsFaultless text items
+        → IsSchemaOf (definitions_of items) s → (name : List ℕ)
+        → IsSome (id_named s name) ↔ IsTypeName (definitions_of items) name }
+    ensures forms { (text : List ℕ) (items : List Item) (s : Schema) → IsFaultless text items
+        → IsSchemaOf (definitions_of items) s → (name : List ℕ) (t : NamedType)
+        → named_type s name ≡ Some t → IsAsDeclared (definitions_of items) s name t.form }
+    ensures uses { (text : List ℕ) (items : List Item) (s : Schema) → IsFaultless text items
+        → IsSchemaOf (definitions_of items) s → (name : List ℕ)
+        → IsUsedAsType (definitions_of items) name → IsSome (id_named s name) }
+    ensures numbers { (text : List ℕ) (items : List Item) → IsFaultless text items → (name : List ℕ)
+        → lookup (bytes_eq name) (numbers_of (definitions_of items))
+        ≡ number_meant (definitions_of items) (map (λ i. i.result) items) name }
 {}
 
 /// Where nothing is known before a text no name is, so the laws of such texts hold of it.

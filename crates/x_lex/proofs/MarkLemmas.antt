@@ -1,6 +1,6 @@
 -- The search for a mark: the first bytes of a word leave one candidate.
 use Rattle.std.proofs.Common.{◌≡◌, ◌≢◌, ℕ, ◌<◌, Bool, true, false, cond, List, [], ◌∷◌, map, length, Option, None, Some, refl, sym, ap, ◌∙◌, lit<}
-use Rattle.std.specs.Prelude.{if◌then◌else◌, option_map, is_some, not, ◌||◌, ◌==◌}
+use Rattle.std.specs.Prelude.{if◌then◌else◌, option_map, is_some, not, ◌||◌, ◌==◌, slice_index_or}
 use Rattle.std.specs.List.{find}
 use Rattle.std.specs.Str.{bytes_eq}
 use Rattle.std.specs.Bool.{then_some}
@@ -8,7 +8,7 @@ use Rattle.std.proofs.lemmas.Bool.{false≢true, eqb-true}
 use Rattle.std.proofs.lemmas.Option.{none-some, same_Some}
 use Rattle.std.proofs.lemmas.Slice.Eq.{bytes_eq-Decides}
 use Rattle.x_lex.specs.Bytes.{is_space, is_letter, is_digit, is_punct}
-use Rattle.x_lex.specs.Marks.{mark_of, text_of, place_of, punctuation, keyword, candidate}
+use Rattle.x_lex.specs.Marks.{spellings, mark_of, text_of, place_of, punctuation, keyword, candidate}
 use Rattle.x_lex.specs.declared.mark.Mark.{Mark}
 use Rattle.x_lex.specs.declared.mark.Mark.TheVariants as marks
 use Rattle.x_lex.specs.declared.mark.TheConstants.{MARKS}
@@ -29,11 +29,19 @@ unfolding mark_of text_of
 stands marks.Bool = record { within = lit< tt; found = refl; apart = refl }
 stands mark = record { within = lit< tt; found = refl; apart = refl }
 
+-- the program's table is that of the definitions
+same_table : map (λ entry. entry.0.now) MARKS ≡ map (λ entry. entry.0) spellings
+same_table = refl
+
 pub within : (mark : Mark) → place_of mark < length MARKS
 within mark = (stands mark).within
 
+pub text_in_table : (mark : Mark) → slice_index_or (map (λ entry. entry.0.now) MARKS) (place_of mark) [] ≡ text_of mark
+unfolding text_of
+text_in_table mark = ap (λ texts. slice_index_or texts (place_of mark) []) same_table
+
 -- the candidate of each text in the table is the mark that is written so
-candidates : map (λ entry. candidate entry.0.now) MARKS ≡ map (λ entry. Some entry.1) MARKS
+candidates : map (λ entry. candidate entry.0) spellings ≡ map (λ entry. Some entry.1) spellings
 unfolding punctuation keyword
 candidates = refl
 
@@ -63,7 +71,7 @@ finds text mark word (e ∷ es) all =
     at_head text mark word e (find (λ e. bytes_eq (text e) word) es) (bytes_eq (text e) word) refl (ap (head_or None) all) (finds text mark word es (ap tail_of all))
 
 -- the texts of the table are those of its marks
-same_texts : map (λ entry. text_of entry.1) MARKS ≡ map (λ entry. entry.0.now) MARKS
+same_texts : map (λ entry. text_of entry.1) spellings ≡ map (λ entry. entry.0) spellings
 unfolding text_of
 same_texts = refl
 
@@ -86,7 +94,7 @@ texts text mark word (e ∷ es) all =
 -- a mark that is written so is the candidate
 found : (word : List ℕ) (mark : Mark) → mark_of word ≡ Some mark → candidate word ≡ Some mark
 unfolding mark_of
-found word mark is = by_entry (λ entry. entry.1) (find (λ entry. bytes_eq entry.0.now word) MARKS) (finds (λ entry. entry.0.now) (λ entry. entry.1) word MARKS candidates) is
+found word mark is = by_entry (λ entry. entry.1) (find (λ entry. bytes_eq entry.0 word) spellings) (finds (λ entry. entry.0) (λ entry. entry.1) word spellings candidates) is
   where
     by_entry : {E : Type 0} (name : E → Mark) (o : Option E) → Finds name word o → option_map name o ≡ Some mark → candidate word ≡ Some mark
     by_entry name None h e = absurd (none-some mark e)
@@ -95,7 +103,7 @@ found word mark is = by_entry (λ entry. entry.1) (find (λ entry. bytes_eq entr
 -- and it is written so
 written : (word : List ℕ) (mark : Mark) → mark_of word ≡ Some mark → text_of mark ≡ word
 unfolding mark_of
-written word mark is = by_entry (λ entry. entry.1) (find (λ entry. bytes_eq entry.0.now word) MARKS) (texts (λ entry. entry.0.now) (λ entry. entry.1) word MARKS same_texts) is
+written word mark is = by_entry (λ entry. entry.1) (find (λ entry. bytes_eq entry.0 word) spellings) (texts (λ entry. entry.0) (λ entry. entry.1) word spellings same_texts) is
   where
     by_entry : {E : Type 0} (name : E → Mark) (o : Option E) → IsText name word o → option_map name o ≡ Some mark → text_of mark ≡ word
     by_entry name None h e = absurd (none-some mark e)

@@ -1,5 +1,5 @@
 -- The marks: the words with one spelling each.
-use Rattle.std.specs.Prelude.{ℕ, ◌==◌, List, [], ◌∷◌, Option, Some, None, option_map, map, slice_index}
+use Rattle.std.specs.Prelude.{ℕ, ◌==◌, List, [], ◌∷◌, Option, Some, None, option_map, map, codes, slice_index}
 use Rattle.std.specs.Prelude.{slice_index_or, if◌then◌else◌}
 use Rattle.std.specs.List.{find}
 use Rattle.std.specs.Str.{bytes_eq}
@@ -7,11 +7,51 @@ use denote.Enum.Declared.{tag_of}
 use Rattle.x_lex.specs.contracts.mark.Mark.{the_type}
 use Rattle.x_lex.specs.declared.mark.Mark.{Mark}
 use Rattle.x_lex.specs.declared.mark.Mark.TheVariants as marks
-use Rattle.x_lex.specs.declared.mark.TheConstants.{MARKS}
+
+-- How each mark is written, in the order of the marks: the keywords of RFC 4506, section 6.2, with `program`
+-- and `version` of RFC 5531, section 12, and `long`, which is this project's; then the punctuation of the
+-- grammar (RFC 4506, section 6.3, and RFC 5531, section 12.2).
+abbrev pub spellings : List (List ℕ × Mark)
+spellings =
+    (codes "bool", marks.Bool)
+    ∷ (codes "case", marks.Case)
+    ∷ (codes "const", marks.Const)
+    ∷ (codes "default", marks.Default)
+    ∷ (codes "double", marks.Double)
+    ∷ (codes "enum", marks.Enum)
+    ∷ (codes "float", marks.Float)
+    ∷ (codes "hyper", marks.Hyper)
+    ∷ (codes "int", marks.Int)
+    ∷ (codes "long", marks.Long)
+    ∷ (codes "opaque", marks.Opaque)
+    ∷ (codes "program", marks.Program)
+    ∷ (codes "quadruple", marks.Quadruple)
+    ∷ (codes "string", marks.String)
+    ∷ (codes "struct", marks.Struct)
+    ∷ (codes "switch", marks.Switch)
+    ∷ (codes "typedef", marks.Typedef)
+    ∷ (codes "union", marks.Union)
+    ∷ (codes "unsigned", marks.Unsigned)
+    ∷ (codes "version", marks.Version)
+    ∷ (codes "void", marks.Void)
+    ∷ (codes "{", marks.OpenBrace)
+    ∷ (codes "}", marks.CloseBrace)
+    ∷ (codes "[", marks.OpenBracket)
+    ∷ (codes "]", marks.CloseBracket)
+    ∷ (codes "(", marks.OpenParenthesis)
+    ∷ (codes ")", marks.CloseParenthesis)
+    ∷ (codes "<", marks.Less)
+    ∷ (codes ">", marks.Greater)
+    ∷ (codes ",", marks.Comma)
+    ∷ (codes ";", marks.Semicolon)
+    ∷ (codes ":", marks.Colon)
+    ∷ (codes "=", marks.Equals)
+    ∷ (codes "*", marks.Star)
+    ∷ []
 
 -- the mark that is written so, if one is
 unfoldable pub mark_of : List ℕ → Option Mark
-mark_of word = option_map (λ entry. entry.1) (find (λ entry. bytes_eq entry.0.now word) MARKS)
+mark_of word = option_map (λ entry. entry.1) (find (λ entry. bytes_eq entry.0 word) spellings)
 
 -- the place of a mark in the table, which has the order of the marks
 abbrev pub place_of : Mark → ℕ
@@ -19,7 +59,7 @@ place_of mark = tag_of the_type mark
 
 -- how the mark is written
 unfoldable pub text_of : Mark → List ℕ
-text_of mark = slice_index_or (map (λ entry. entry.0.now) MARKS) (place_of mark) []
+text_of mark = slice_index_or (map (λ entry. entry.0) spellings) (place_of mark) []
 
 -- What follows is for the search alone, and no public clause rests on it.
 

@@ -16,7 +16,7 @@ pub use laws::{
     has_tokens, one_meeting, one_patch, one_tiling, token_by_bytes, token_by_scan, tokens_by_place,
 };
 pub use lexing::lex;
-pub use mark::{MARKS, Mark};
+pub use mark::Mark;
 pub use relexing::relex;
 pub use scan::{is_number, lex_one};
 pub use tokens::{Patch, PatchedTokenIter, Token, TokenIter, Tokens};

@@ -42,9 +42,8 @@ pub enum Mark {
     Star,
 }
 
-/// How each mark is written, in the order of [`Mark`]: which words are keywords, and which bytes punctuation,
-/// follows from it.
-pub const MARKS: [(&[u8], Mark); 34] = [
+/// How each mark is written, in the order of [`Mark`].
+const MARKS: [(&[u8], Mark); 34] = [
     (b"bool", Mark::Bool),
     (b"case", Mark::Case),
     (b"const", Mark::Const),
@@ -157,7 +156,7 @@ fn text_in(table: &[(&'static [u8], Mark)], mark: Mark) -> &'static [u8]
 
 impl Mark {
     /// How the mark is written.
-    #[tactic(auto, unfolding(crate::specs::Marks::text_of), using(crate::proofs::MarkLemmas::within))]
+    #[tactic(auto, using(crate::proofs::MarkLemmas::within, crate::proofs::MarkLemmas::text_in_table))]
     pub fn text(self) -> &'static [u8]
         ensures { result.now ≡ text_of self }
     {

@@ -220,7 +220,7 @@ impl<'k> Server<'k> {
             (said_of result) }
     {
         match self.result_of(method, params) {
-            Ok(found) => match answer(self.alloc, id, &found) {
+            Ok(found) => match answer(self.alloc, id, found) {
                 Ok(text) => {
                     self.go_on(method, params);
                     Reply::Text(text)

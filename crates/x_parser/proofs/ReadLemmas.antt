@@ -8,8 +8,7 @@ use Rattle.x_trees.specs.Words.{Word, Fixed, word_of}
 use Rattle.x_lex.specs.Places.{lexeme}
 use Rattle.x_lex.specs.declared.mark.Mark.{Mark}
 use Rattle.x_lex.specs.declared.mark.Mark.TheVariants as marks
-use Rattle.x_lex.specs.declared.mark.TheConstants.{MARKS}
-use Rattle.x_lex.specs.Marks.{place_of}
+use Rattle.x_lex.specs.Marks.{spellings, place_of}
 use Rattle.x_parser.specs.Symbols.{Symbol, Token as OfMark, go}
 use Rattle.x_parser.specs.declared.fault_code.FaultCode.{FaultCode}
 use Rattle.x_parser.specs.Reading.{WordAhead, IsAt, Fails, ReadsPart, IsPart, HasFirst, IsSplit, LacksFirst, ahead, words_at, left_in, code_in, read}
@@ -142,7 +141,7 @@ ok_of P (Err e) value is q p = tt
 
 -- no two marks have one place in the table
 mark_at : ℕ → Mark
-mark_at n = get_or (map (λ entry. entry.1) MARKS) n marks.Bool
+mark_at n = get_or (map (λ entry. entry.1) spellings) n marks.Bool
 
 mark_at_place : (m : Mark) → mark_at (place_of m) ≡ m
 unfolding mark_at

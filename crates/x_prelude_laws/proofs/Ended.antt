@@ -11,9 +11,8 @@ use Rattle.x_lex.specs.declared.kind.Kind.{Kind}
 use Rattle.x_lex.specs.declared.kind.Kind.TheVariants as kinds
 use Rattle.x_lex.specs.declared.mark.Mark.{Mark}
 use Rattle.x_lex.specs.declared.mark.Mark.TheVariants as marks
-use Rattle.x_lex.specs.declared.mark.TheConstants.{MARKS}
 use Rattle.x_lex.specs.Bytes.{is_letter}
-use Rattle.x_lex.specs.Marks.{mark_of}
+use Rattle.x_lex.specs.Marks.{spellings, mark_of}
 use Rattle.x_lex.specs.Places.{Lexeme}
 use Rattle.x_lex.specs.Tiling.{starts_after}
 use Rattle.x_lex.specs.Word.{IsToken, IsWord}
@@ -85,7 +84,7 @@ by_tests false false false a b c = refl
 punct_role : (text : List ℕ) → role_by kinds.Punct text ≡ word_role (marked (mark_of text))
 unfolding mark_of role_by
 punct_role text =
-    found_role (λ entry. entry.0.now) (λ entry. entry.1) (role_by kinds.Punct) MARKS text refl
+    found_role (λ entry. entry.0) (λ entry. entry.1) (role_by kinds.Punct) spellings text refl
     (λ h. unmarked (ap (option_map (λ entry. entry.1)) h))
   where
     -- one of the three bytes has a mark
@@ -109,7 +108,7 @@ keyword_role : (text : List ℕ) → is_letter (get_or text 0 0) ≡ true
     → word_role (marked (mark_of text)) ≡ plain
 unfolding mark_of
 keyword_role text letter =
-    sym (found_role (λ entry. entry.0.now) (λ entry. entry.1) letter_role MARKS text refl
+    sym (found_role (λ entry. entry.0) (λ entry. entry.1) letter_role spellings text refl
     (λ h. ap (λ b. if b then plain else word_role (marked (mark_of text))) letter))
     ∙ ap (λ b. if b then plain else word_role (marked (mark_of text))) letter
 

@@ -9,9 +9,8 @@ use Rattle.std.proofs.lemmas.List.Folds.{list_all-append}
 use Rattle.std.proofs.lemmas.Slice.Eq.{bytes_eq-Decides}
 use Rattle.x_lex.specs.declared.kind.Kind.{Kind}
 use Rattle.x_lex.specs.declared.kind.Kind.TheVariants as kinds
-use Rattle.x_lex.specs.declared.mark.TheConstants.{MARKS}
 use Rattle.x_lex.specs.Bytes.{is_digit, is_keyword, is_space, is_letter, is_number, is_punct, is_word_byte}
-use Rattle.x_lex.specs.Marks.{mark_of}
+use Rattle.x_lex.specs.Marks.{spellings, mark_of}
 use Rattle.x_cutting.specs.Cutting.{role_by}
 use Rattle.x_trees.specs.Tree as tree
 use Rattle.x_trees.specs.Names.{Declared, declared}
@@ -259,7 +258,7 @@ longer_no_keyword : (w : List ℕ) → is_keyword (w ++ codes "__") ≡ false
 unfolding mark_of
 longer_no_keyword w =
     ap (λ o. is_some (option_map (λ entry. entry.1) o))
-    (not_found (λ entry. entry.0.now) (w ++ codes "__") MARKS (longer_is w) refl)
+    (not_found (λ entry. entry.0) (w ++ codes "__") spellings (longer_is w) refl)
 
 regroup : (a b c d e f : List ℕ) → ((((a ++ b) ++ c) ++ d) ++ e) ++ f ≡ a ++ (b ++ (c ++ (d ++ (e ++ f))))
 regroup a b c d e f = simp append_assoc

@@ -1,11 +1,8 @@
 -- A change takes one work.
-use Rattle.std.proofs.Common.{◌≡◌, ◌≤◌, ℕ, suc, ◌+◌, ◌*◌, true, List, [], ◌∷◌, ◌++◌, length, map, take, drop, refl, sym, ap, subst, ◌∙◌, arith}
+use Rattle.std.proofs.Common.{◌≡◌, ℕ, ◌+◌, true, List, [], ◌∷◌, ◌++◌, length, map, take, drop, refl, sym, ap, subst, ◌∙◌, arith}
 use Rattle.std.specs.List.{splice}
-use Rattle.std.specs.Prelude.{sum_by}
 use Rattle.std.proofs.lemmas.List.{length-map}
-use Rattle.std.proofs.lemmas.List.Sums.{sum_by-append}
 use Rattle.x_text.specs.Edits.{Change, edited_by, LiesWithin}
-use Rattle.x_text.specs.declared.text.edit.Edit.{Edit}
 use Rattle.x_lists.specs.Seqs.{distance}
 use Rattle.x_lex.specs.declared.kind.Kind.{Kind}
 use Rattle.x_lex.specs.Places.{lexemes}
@@ -23,44 +20,37 @@ use Rattle.x_recheck.specs.Staleness.{AreStale}
 use Rattle.x_recheck.proofs.StaleLists.{one_stale_list}
 use Rattle.x_compile.specs.Compile.{definitions_of}
 use Rattle.x_compile.specs.Known.{KnownText, known_names}
-use Rattle.x_follow.specs.Moves.{AreNear, Changed, changed_items, moves, place_of, seat_behind}
+use Rattle.x_follow.specs.Moves.{changed_items, moves, place_of, seat_behind}
 use Rattle.x_session.specs.Session.{Document}
-use Rattle.x_session.specs.Work.{AreNearWorks, AreStaleItems, IsWork, definitions_edit}
+use Rattle.x_session.specs.Work.{AreStaleItems, IsWork, definitions_edit}
 use Rattle.x_session.specs.declared.session.work.Work.{Work}
 use Rattle.x_compile.proofs.Compiled.{one_compilation}
 use Rattle.x_follow.proofs.PatchLemmas.{same_patch}
 
--- what stands between the same lists is the same
-between : {X : Type 0} (front xs ys rear more : List X) → length xs ≡ length ys → front ++ (xs ++ rear) ≡ front ++ (ys ++ more) → xs ≡ ys
-between [] [] [] rear more long same = refl
-between [] [] (y ∷ ys) rear more long same = absurd (omega (arith, long))
-between [] (x ∷ xs) [] rear more long same = absurd (omega (arith, long))
-between [] (x ∷ xs) (y ∷ ys) rear more long same =
-    let here : x ≡ y = cc in
-    let there : xs ++ rear ≡ ys ++ more = cc in
-    let rest = between [] xs ys rear more (omega (arith, long)) there in
-    λ i. here i ∷ rest i
-between (f ∷ front) xs ys rear more long same =
-    let there : front ++ (xs ++ rear) ≡ front ++ (ys ++ more) = cc in
-    between front xs ys rear more long there
-
 -- the stale items, of one recut
-one_stale : (known : KnownText) (change : Change) (ts us : List (Kind × ℕ)) (r q : ItemChange (Unit {0})) (ks ls : List ℕ) → AreOne r q → AreStaleItems known change ts us r ks → AreStaleItems known change ts us q ls → ks ≡ ls
+one_stale : (known : KnownText) (change : Change) (ts us : List (Kind × ℕ)) (r q : ItemChange (Unit {0}))
+    (ks ls : List ℕ) → AreOne r q → AreStaleItems known change ts us r ks
+    → AreStaleItems known change ts us q ls → ks ≡ ls
 one_stale known change ts us r q ks ls one h k =
     let old = (one_compilation known change.old ts ts h.olds k.olds h.are_olds k.are_olds).1 in
     let new = (one_compilation known (edited_by change) us us h.news k.news h.are_news k.are_news).1 in
-    let many : length r.fresh ≡ length q.fresh = sym (length-map r.fresh tokens_in) ∙ ap length one.fresh ∙ length-map q.fresh tokens_in in
+    let many : length r.fresh ≡ length q.fresh =
+    sym (length-map r.fresh tokens_in) ∙ ap length one.fresh ∙ length-map q.fresh tokens_in in
     let at = one.at in
     let removed = one.removed in
-    let same : splice (definitions_of k.olds) q.at (q.at + q.removed) h.put ≡ splice (definitions_of k.olds) q.at (q.at + q.removed) k.put =
-    sym (λ i. splice (definitions_of (old i)) (at i) (at i + removed i) h.put) ∙ h.edited_is ∙ ap definitions_of new ∙ sym k.edited_is in
-    let long : length h.put ≡ length k.put = h.added ∙ many ∙ sym k.added in
-    let put = between (take q.at (definitions_of k.olds)) h.put k.put (drop (q.at + q.removed) (definitions_of k.olds)) (drop (q.at + q.removed) (definitions_of k.olds)) long same in
-    let edit : definitions_edit known h.olds r h.put ≡ definitions_edit known k.olds q k.put =
-    λ i. record { known = known_names known; old = definitions_of (old i); outcomes = map (λ x. x.result) (old i); place = record { at = at i; removed = removed i; added = many i }; put = put i } in
+    let edit : definitions_edit known h.olds h.news r ≡ definitions_edit known k.olds k.news q =
+    λ i. record {
+      known = known_names known;
+      old = definitions_of (old i);
+      outcomes = map (λ x. x.result) (old i);
+      place = record { at = at i; removed = removed i; added = many i };
+      put = take (many i) (drop (at i) (definitions_of (new i)));
+    } in
     let stale = subst (λ e. AreStale e (map (λ x. x.result) h.news) ks) edit h.are in
-    let there = subst (λ ns. AreStale (definitions_edit known k.olds q k.put) (map (λ x. x.result) ns) ls) (sym new) k.are in
-    one_stale_list (definitions_edit known k.olds q k.put) (map (λ x. x.result) h.news) ks ls stale there
+    let there =
+    subst (λ ns. AreStale (definitions_edit known k.olds k.news q) (map (λ x. x.result) ns) ls) (sym new)
+    k.are in
+    one_stale_list (definitions_edit known k.olds k.news q) (map (λ x. x.result) h.news) ks ls stale there
 
 pub one_work : (change : Change) (old d e : Document) (v w : Work) → LiesWithin change → IsWork change old d v → IsWork change old e w → (v ≡ w) × (d.token_seat ≡ e.token_seat) × (d.item_seat ≡ e.item_seat)
 one_work change old d e v w within h k =
@@ -94,25 +84,3 @@ one_work change old d e v w within h k =
       h.token_seat ∙ ap (λ (p : TokenPatch). p.at + length p.fresh) patch ∙ sym k.token_seat,
       h.item_seat ∙ ap (seat_behind old.item_seat) changed ∙ sym k.item_seat,
     )
-
--- ---- edits near one another
-
-near_moves : (reach seat : ℕ) (cs : List Changed) → AreNear reach seat cs → moves seat cs ≤ 2 * reach
-near_moves reach seat [] near = omega arith
-near_moves reach seat (c ∷ cs) near = let a = near.0 in let b = near.1 in omega (arith, a, b)
-
-pub near_edits : (reach : ℕ) (old new : Document) (es : List Edit) (ws : List Work) → AreNearWorks reach old es ws new → sum_by (λ w. w.moved) ws ≤ 3 * reach * length es
-near_edits reach old new [] [] are = omega arith
-near_edits reach old new [] (w ∷ ws) are = absurd are
-near_edits reach old new (e ∷ es) [] are = absurd are
-near_edits reach old new (e ∷ es) (w ∷ ws) are =
-    let near = are.2 in
-    let a = near.tokens in
-    let b = near_moves reach old.item_seat (changed_items (place_of near.work.recut) near.work.stale) near.items in
-    let here = near.work.moved in
-    let rest = near_edits reach are.0 new es ws are.3 in
-    let n = length es in
-    let more : 3 * reach * suc n ≡ 3 * reach * n + 3 * reach = omega arith in
-    let all = sum_by-append (λ (v : Work). v.moved) (w ∷ []) ws in
-    let one : sum_by (λ (v : Work). v.moved) (w ∷ []) ≡ w.moved = omega arith in
-    omega (arith, a, b, here, rest, more, all, one)

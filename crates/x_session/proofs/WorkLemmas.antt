@@ -4,7 +4,8 @@ use Rattle.std.specs.Global.{Box}
 use Rattle.std.specs.Prelude.{option_and_then, slice_get, sum_by}
 use Rattle.std.specs.List as Among
 use Rattle.std.specs.List.{splice}
-use Rattle.std.proofs.lemmas.List.{length-append, length-map}
+use Rattle.std.proofs.lemmas.List.{length-append, length-map, length-take-le}
+use Rattle.std.proofs.Math.Seq.{drop-append_seam, take-append_seam}
 use Rattle.std.proofs.lemmas.List.Sums.{sum_by-append}
 use Rattle.x_streams.specs.Counters.{raised}
 use Rattle.x_text.specs.Edits.{Change, change_of, edited_by}
@@ -30,6 +31,7 @@ use Rattle.x_recheck.specs.Staleness.{AreStale, Ascending}
 use Rattle.x_compile.specs.Checking.{AreChecked}
 use Rattle.x_follow.specs.Following.{AreUsed, IsPlan, behind, edit_of}
 use Rattle.x_compile.specs.KeptView.{AreWith, entry_definitions, found_result, kept_definition}
+use Rattle.x_compile.specs.Compile.{definitions_of}
 use Rattle.x_follow.specs.Moves.{changed_items, moves, place_of, seat_behind}
 use Rattle.x_follow.specs.Planned.{numbers_of}
 use Rattle.x_session.specs.Session.{Document, LeavesText}
@@ -75,29 +77,61 @@ stale_few e after ks h =
     let few = ascending_few 0 (length (definitions_after e)) ks h.ascend (λ k is. let s = (h.each k).0 is in some_within (definitions_after e) k s.definition s.has) (omega arith) in
     omega (arith, few)
 
+-- what was put into a list stands there
+put_there : {X : Type 0} (xs ys zs : List X) (i j n : ℕ) → i ≤ length xs → length ys ≡ n
+    → splice xs i j ys ≡ zs → ys ≡ take n (drop i zs)
+put_there xs ys zs i j n within many is =
+    let front : length (take i xs) ≡ i = length-take-le i xs within in
+    let rear : drop i (take i xs ++ (ys ++ drop j xs)) ≡ ys ++ drop j xs =
+    ap (λ k. drop k (take i xs ++ (ys ++ drop j xs))) (sym front)
+    ∙ drop-append_seam (take i xs) (ys ++ drop j xs) in
+    sym (ap (λ k. take k (ys ++ drop j xs)) (sym many) ∙ take-append_seam ys (drop j xs))
+    ∙ ap (take n) (sym rear) ∙ ap (λ l. take n (drop i l)) is
+
 -- the items that an edit makes stale, by what is kept of both texts
-pub stale_items : (known : KnownText) (change : Change) (ts us : List (Kind × ℕ)) (es fs : List (ItemEntry Content)) (p : ItemChange Content) (m n : ℕ) (v w : Option UseTable) (rs : List (Option (Box CheckResult))) (ks : List ℕ)
-    → IsKept known change.old ts es m v → IsKept known (edited_by change) us fs n w → AreWith (patched es p) rs fs → AreStale (edit_of (known_names known) es p) (map found_result rs) ks
-    → AreStaleItems known change ts us (record { at = p.at; removed = p.removed; start = p.start; fresh = map bare p.fresh }) ks
-stale_items known change ts us es fs p m n v w rs ks old new with are =
+pub stale_items : (known : KnownText) (change : Change) (ts us : List (Kind × ℕ))
+    (es fs : List (ItemEntry Content)) (p : ItemChange Content) (m n : ℕ) (v w : Option UseTable)
+    (rs : List (Option (Box CheckResult))) (ks : List ℕ) → p.at ≤ length es
+    → IsKept known change.old ts es m v → IsKept known (edited_by change) us fs n w
+    → AreWith (patched es p) rs fs → AreStale (edit_of (known_names known) es p) (map found_result rs) ks
+    → AreStaleItems known change ts us
+    (record { at = p.at; removed = p.removed; start = p.start; fresh = map bare p.fresh }) ks
+stale_items known change ts us es fs p m n v w rs ks within old new with are =
     let olds = items_of change.old ts es in
     let news = items_of (edited_by change) us fs in
-    let recut : ItemChange (Unit {0}) = record { at = p.at; removed = p.removed; start = p.start; fresh = map bare p.fresh } in
+    let recut : ItemChange (Unit {0}) =
+    record { at = p.at; removed = p.removed; start = p.start; fresh = map bare p.fresh } in
     let put = entry_definitions p.fresh in
     let long : length p.fresh ≡ length recut.fresh = sym (length-map p.fresh bare) in
     let ds = sym (definitions-items (lexemes change.old ts) es) in
     let os = sym (results-items (lexemes change.old ts) es) in
-    let edit_is : edit_of (known_names known) es p ≡ definitions_edit known olds recut put = λ i. record { known = known_names known; old = ds i; outcomes = os i; place = record { at = p.at; removed = p.removed; added = long i }; put = put } in
-    let after : map found_result rs ≡ map (λ i. i.result) news = sym (results_with (patched es p) rs fs with) ∙ sym (results-items (lexemes (edited_by change) us) fs) in
+    let all : definitions_after (edit_of (known_names known) es p) ≡ definitions_of news =
+    sym (definitions_splice es p) ∙ sym (definitions_with (patched es p) rs fs with)
+    ∙ sym (definitions-items (lexemes (edited_by change) us) fs) in
+    let many = length-map es (λ e. kept_definition e.kept) in
+    let put_is =
+    put_there (entry_definitions es) put (definitions_of news) p.at (p.at + p.removed)
+    (length recut.fresh) (omega (arith, many, within))
+    (length-map p.fresh (λ e. kept_definition e.kept) ∙ long) all in
+    let edit_is : edit_of (known_names known) es p ≡ definitions_edit known olds news recut =
+    λ i. record {
+      known = known_names known;
+      old = ds i;
+      outcomes = os i;
+      place = record { at = p.at; removed = p.removed; added = long i };
+      put = put_is i;
+    } in
+    let after : map found_result rs ≡ map (λ i. i.result) news =
+    sym (results_with (patched es p) rs fs with)
+    ∙ sym (results-items (lexemes (edited_by change) us) fs) in
     record {
       olds = olds;
       are_olds = compilation old;
       news = news;
       are_news = compilation new;
-      put = put;
-      added = length-map p.fresh (λ e. kept_definition e.kept) ∙ long;
-      edited_is = ap definitions_after (sym edit_is) ∙ sym (definitions_splice es p) ∙ sym (definitions_with (patched es p) rs fs with) ∙ sym (definitions-items (lexemes (edited_by change) us) fs);
-      are = subst (λ a. AreStale (definitions_edit known olds recut put) a ks) after (subst (λ e. AreStale e (map found_result rs) ks) edit_is are);
+      are =
+          subst (λ a. AreStale (definitions_edit known olds news recut) a ks) after
+          (subst (λ e. AreStale e (map found_result rs) ks) edit_is are);
     }
 
 pub work_of : (change : Change) (before new : Document) (ts : List (Kind × ℕ)) (es : List (ItemEntry Content)) (p : TokenPatch) (ip : ItemChange Content) (w : Work) (ks : List ℕ) → AreTokens change.old ts → IsPatch change ts p
@@ -166,6 +200,7 @@ work_edited change before new ts us es fs m n u v p w h old made same with few f
     let rs = behind es p.items p.found.items in
     let ks = map (λ (q : PlannedResult). q.item) p.found.items in
     let stale = h.checked.stale in
+    let among = h.recut.among in
     let many = stale_few (edit_of (known_names before.known) es p.items) (map found_result rs) ks stale in
     let long = ap length (definitions_splice es p.items) in
     let all = length-map (patched es p.items) (λ e. kept_definition e.kept) in
@@ -174,7 +209,8 @@ work_edited change before new ts us es fs m n u v p w h old made same with few f
     work_of change before new ts es p.tokens p.items w ks old.are_tokens h.patch (cut_of (lexemes change.old ts) es old.parsed) h.recut
     (counted_few w.lexed (length p.tokens.fresh) lexed (omega (arith, f, a))) (counted_few w.parsed (length p.items.fresh) counted (omega (arith, g, b, l))) (once ∙ sym some)
     (subst (λ l. AreStaleItems before.known change ts l (record { at = p.items.at; removed = p.items.removed; start = p.items.start; fresh = map bare p.items.fresh }) ks) same
-    (stale_items before.known change ts us es fs p.items m n u v rs ks old made with stale)) moved seat item_seat
+    (stale_items before.known change ts us es fs p.items m n u v rs ks (omega (arith, among)) old made with stale)) moved
+    seat item_seat
 
 -- ---- the work of one edit after another
 

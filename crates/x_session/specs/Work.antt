@@ -1,5 +1,5 @@
 -- What work an edit takes, by both texts: each is compiled from its start, and then they are compared.
-use Rattle.std.specs.Prelude.{◌≡◌, ◌≤◌, ℕ, ◌+◌, List, [], ◌∷◌, Option, length, map, sum_by}
+use Rattle.std.specs.Prelude.{◌≡◌, ℕ, ◌+◌, List, [], ◌∷◌, drop, length, map, sum_by, take}
 use Rattle.x_streams.specs.Counters.{raised}
 use Rattle.x_text.specs.Edits.{Change, change_of, edited_by}
 use Rattle.x_lists.specs.Seqs.{distance}
@@ -12,42 +12,36 @@ use Rattle.x_lex.specs.TokenList.{TokenPatch, patched}
 use Rattle.x_cutting.specs.ItemList.{ItemChange, counts}
 use Rattle.x_cutting.specs.Items.{IsCut}
 use Rattle.x_cutting.specs.Recut.{IsItemPatch}
-use Rattle.x_trees.specs.Tree.{Definition}
 use Rattle.x_cutting.specs.declared.cutting.item_entry.ItemEntry.{ItemEntry}
-use Rattle.x_recheck.specs.Editing.{TextEdit, definitions_after}
+use Rattle.x_recheck.specs.Editing.{TextEdit}
 use Rattle.x_recheck.specs.Staleness.{AreStale}
 use Rattle.x_compile.specs.Compile.{Item, IsCompilation, definitions_of}
 use Rattle.x_compile.specs.Known.{KnownText, known_names}
-use Rattle.x_follow.specs.Moves.{AreNear, changed_items, moves, place_of, seat_behind}
+use Rattle.x_follow.specs.Moves.{changed_items, moves, place_of, seat_behind}
 use Rattle.x_session.specs.Session.{Document, LeavesText}
 use Rattle.x_session.specs.declared.session.work.Work.{Work}
 
--- An edit of a text's items as one of their definitions: `recut` says which items go and how many come, `put`
--- what those that come define, if anything.
-abbrev pub definitions_edit : KnownText → List Item → ItemChange (Unit {0}) → List (Option Definition)
-    → TextEdit
-definitions_edit known olds recut put = record {
+-- An edit of a text's items as one of their definitions: `recut` says which items go and how many come, and
+-- what those that come define is a part of what the new text defines.
+abbrev pub definitions_edit : KnownText → (olds news : List Item) → ItemChange (Unit {0}) → TextEdit
+definitions_edit known olds news recut = record {
   known = known_names known;
   old = definitions_of olds;
   outcomes = map (λ i. i.result) olds;
   place = place_of recut;
-  put = put;
+  put = take (length recut.fresh) (drop recut.at (definitions_of news));
 }
 
 -- These are the numbers of the items that the change makes stale: both texts are compiled from their starts,
 -- and an item with a definition is stale if it is recut, or if it sees a name that it declares or mentions
--- otherwise than before. `recut` is what the change does to the items (`IsItemPatch`); by it and both texts
--- `put` is determined.
+-- otherwise than before. `recut` is what the change does to the items (`IsItemPatch`).
 pub record AreStaleItems (known : KnownText) (change : Change) (ts us : List (Kind × ℕ))
     (recut : ItemChange (Unit {0})) (stale : List ℕ) : Type 0 where
   pub olds : List Item
   pub are_olds : IsCompilation known change.old ts olds
   pub news : List Item
   pub are_news : IsCompilation known (edited_by change) us news
-  pub put : List (Option Definition)
-  pub added : length put ≡ length recut.fresh
-  pub edited_is : definitions_after (definitions_edit known olds recut put) ≡ definitions_of news
-  pub are : AreStale (definitions_edit known olds recut put) (map (λ i. i.result) news) stale
+  pub are : AreStale (definitions_edit known olds news recut) (map (λ i. i.result) news) stale
 
 -- The change took this work: as many tokens were lexed as are fresh, as many items parsed as are recut, and
 -- as many checked as are stale. As many entries moved as lie between the tokens' seat and the tokens that go,
@@ -93,19 +87,3 @@ pub record IsWorkOfAll (old : Document) (edits : List Edit) (new : Document) (to
 -- the edits were done, one after another, each with its work, and the session is as they leave it
 abbrev pub HasDone : Document → List Edit → Document → Type 0
 HasDone old edits new = (total : Work) × IsWorkOfAll old edits new total
-
--- The work of an edit near the one before it, which left the seats: within so many tokens and items, and
--- with so few unchanged items between those that it changes.
-pub record IsNearWork (reach : ℕ) (change : Change) (old new : Document) (w : Work) : Type 0 where
-  pub work : IsWork change old new w
-  pub tokens : distance old.token_seat work.patch.at (work.patch.at + work.patch.removed) ≤ reach
-  pub items : AreNear reach old.item_seat (changed_items (place_of work.recut) work.stale)
-
--- so each of the edits is, one after another
-abbrev pub AreNearWorks : ℕ → Document → List Edit → List Work → Document → Type 0
-AreNearWorks reach old [] [] new = new ≡ old
-AreNearWorks reach old [] (w ∷ ws) new = ⊥
-AreNearWorks reach old (e ∷ es) [] new = ⊥
-AreNearWorks reach old (e ∷ es) (w ∷ ws) new =
-    (next : Document) × LeavesText old next (edited_by (change_of old.text e))
-    × IsNearWork reach (change_of old.text e) old next w × AreNearWorks reach next es ws new

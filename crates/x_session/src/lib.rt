@@ -11,7 +11,7 @@ mod session;
 pub use declared::{DeclaredNames, FirstPlace, Spot, definitions, names};
 pub use fault_lines::add_place;
 pub use foreign::ForeignName;
-pub use laws::{near_edits, one_compilation, one_work};
+pub use laws::{one_compilation, one_work};
 pub use session::{SchemaFault, Session, Work};
 pub use x_compile::{Fault, FaultCode, FaultPlace, FaultPlaces, Faults};
 pub use x_gen::Which;

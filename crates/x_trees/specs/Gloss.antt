@@ -4,16 +4,14 @@
 --
 -- What becomes of a word with its roles is up to `make`: `gloss` keeps both, and `spell` of Spell.antt the
 -- words alone.
-use Rattle.std.specs.Prelude.{ℕ, ◌+◌, Bool, true, false, List, [], ◌∷◌, ◌++◌, length, map, slice_index_or}
+use Rattle.std.specs.Prelude.{ℕ, ◌+◌, Bool, true, false, List, [], ◌∷◌, ◌++◌, length, map}
 use Rattle.std.specs.Prelude.{Option, Some, None, is_some, codes}
-use denote.Enum.Declared.{tag_of}
 use Rattle.x_trees.specs.Tree as tree
 use Rattle.x_trees.specs.Words.{Word, Fixed, Name, Number}
 use Rattle.x_lex.specs.declared.mark.Mark.{Mark}
 use Rattle.x_lex.specs.declared.mark.Mark.TheVariants as marks
 use Rattle.x_trees.specs.declared.trees.declaration.Basic.{Basic}
-use Rattle.x_trees.specs.contracts.trees.declaration.Basic.{the_type}
-use Rattle.x_trees.specs.declared.trees.declaration.TheConstants.{BASIC_MARKS}
+use Rattle.x_trees.specs.declared.trees.declaration.Basic.TheVariants as basics
 use Rattle.x_trees.specs.declared.trees.declaration.Tag.{Tag}
 use Rattle.x_trees.specs.declared.trees.declaration.Tag.TheVariants as tags
 use Rattle.x_trees.specs.declared.names.declared_name.NameKind.{NameKind}
@@ -82,9 +80,19 @@ abbrev pub spell_value : tree.Value → Word
 spell_value (tree.Number t) = Number t
 spell_value (tree.Named t) = Name t
 
--- the keywords of a type, by the one table of them, which has the order of the types
+-- the keywords of a type: RFC 4506, sections 4.1, 4.2 and 4.4 to 4.8, and `long` and `unsigned` alone
 abbrev pub basic_marks : Basic → List Mark
-basic_marks b = slice_index_or (map (λ marks. marks.now) BASIC_MARKS) (tag_of the_type b) []
+basic_marks basics.Int = marks.Int ∷ []
+basic_marks basics.UnsignedInt = marks.Unsigned ∷ marks.Int ∷ []
+basic_marks basics.Long = marks.Long ∷ []
+basic_marks basics.UnsignedLong = marks.Unsigned ∷ marks.Long ∷ []
+basic_marks basics.Hyper = marks.Hyper ∷ []
+basic_marks basics.UnsignedHyper = marks.Unsigned ∷ marks.Hyper ∷ []
+basic_marks basics.Unsigned = marks.Unsigned ∷ []
+basic_marks basics.Float = marks.Float ∷ []
+basic_marks basics.Double = marks.Double ∷ []
+basic_marks basics.Quadruple = marks.Quadruple ∷ []
+basic_marks basics.Bool = marks.Bool ∷ []
 
 abbrev pub tag_mark : Tag → Mark
 tag_mark tags.Enum = marks.Enum

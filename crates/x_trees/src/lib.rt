@@ -12,7 +12,7 @@ pub use names::{
     mentions,
 };
 pub use trees::{
-    Argument, Arm, BASIC_MARKS, Basic, Body, DataType, Declaration, Definition, Enumerator, Length,
-    MOST_INLINE, Procedure, Shape, Spelling, Tag, UnionBody, Value, Version, fitted, inline,
-    struct_body, union_body,
+    Argument, Arm, Basic, Body, DataType, Declaration, Definition, Enumerator, Length, MOST_INLINE,
+    Procedure, Shape, Spelling, Tag, UnionBody, Value, Version, fitted, inline, struct_body,
+    union_body,
 };

@@ -8,8 +8,8 @@ mod spelling;
 mod value;
 
 pub use declaration::{
-    Arm, BASIC_MARKS, Basic, Body, DataType, Declaration, Enumerator, Length, MOST_INLINE, Shape,
-    Tag, UnionBody, inline, struct_body, union_body,
+    Arm, Basic, Body, DataType, Declaration, Enumerator, Length, MOST_INLINE, Shape, Tag,
+    UnionBody, inline, struct_body, union_body,
 };
 pub use definition::Definition;
 pub use lists::fitted;

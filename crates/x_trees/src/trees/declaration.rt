@@ -8,7 +8,6 @@ ghost use Rattle.x_trees.specs.View.{view_default};
 
 use super::{Spelling, Value, fitted};
 use std::alloc::{AllocError, Global};
-use x_lex::Mark;
 
 /// How many inline bodies may stand inside one another at the most.
 pub const MOST_INLINE: u32 = 32;
@@ -59,21 +58,6 @@ pub enum Basic {
     /// `bool`
     Bool,
 }
-
-/// The keywords that spell each type, in the order of [`Basic`].
-pub const BASIC_MARKS: [&[Mark]; 11] = [
-    &[Mark::Int],
-    &[Mark::Unsigned, Mark::Int],
-    &[Mark::Long],
-    &[Mark::Unsigned, Mark::Long],
-    &[Mark::Hyper],
-    &[Mark::Unsigned, Mark::Hyper],
-    &[Mark::Unsigned],
-    &[Mark::Float],
-    &[Mark::Double],
-    &[Mark::Quadruple],
-    &[Mark::Bool],
-];
 
 impl Basic {
     /// How many words spell the type.

@@ -1,0 +1,8 @@
+use Rattle.x_laws.proofs.EachProcedure.{first_of_numbers, procedure_in}
+use Rattle.x_laws.proofs.laws.each_procedure.Goals as goal
+
+pub returns-clause-numbers : goal.returns-clause-numbers
+returns-clause-numbers c = procedure_in
+
+pub returns-clause-first : goal.returns-clause-first
+returns-clause-first c = first_of_numbers
