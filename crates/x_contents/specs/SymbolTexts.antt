@@ -18,7 +18,7 @@ use Rattle.x_contents.specs.declared.symbols.Shown.{Shown}
 abbrev pub no_text : List ℕ
 no_text = 91 ∷ []
 
--- a symbol of this name, with these symbols in it
+-- a symbol of this name, with this list of the symbols in it, brackets and all
 abbrev pub symbol_text : PartKind → (name range selection children : List ℕ) → List ℕ
 symbol_text kind name range selection children = codes "{\"children\":" ++ children
     ++ codes ",\"kind\":" ++ decimal (symbol_kind kind) ++ codes ",\"name\":" ++ compact_text (string name)

@@ -1,5 +1,5 @@
 -- Each value, size, case and enumerator of a text without a fault has its number.
-use Rattle.std.proofs.Common.{◌≡◌, ◌<◌, ◌^◌, ◌⊎◌, inl, inr, ℕ, ℤ, pos, negsuc, Bool, true, false, cond, map, List, [], ◌∷◌, Option, None, Some, refl, sym, ap, subst, ◌∙◌, arith}
+use Rattle.std.proofs.Common.{◌≡◌, ◌<◌, ◌^◌, ◌⊎◌, inl, inr, ℕ, zero, suc, ℤ, pos, negsuc, Bool, true, false, cond, map, List, [], ◌∷◌, Option, None, Some, refl, sym, ap, subst, ◌∙◌, arith}
 use Rattle.std.specs.Prelude.{IsSome, is_some, slice_get, nat_lt}
 use Rattle.std.specs.List.{IsAmong}
 use Rattle.std.specs.Map.{lookup}
@@ -16,11 +16,11 @@ use Rattle.x_numbers.specs.Numbers.{in_range, is_enum_number, is_word_number, nu
 use Rattle.x_outline.specs.Bodies.{EnumeratorAt, enumerators}
 use Rattle.x_rules.specs.Constants.{Known, is_declared_before, knowns, limit_of, number_at, number_before, number_named, number_seen}
 use Rattle.x_rules.specs.Results.{AreResults, Outcome, no_names, result_at, view_by}
-use Rattle.x_rules.specs.Rules.{HasRole, IsBadSize, IsNoConstant, size_role, value_role}
+use Rattle.x_rules.specs.Rules.{HasRole, IsBadSize, IsEmptyArray, IsNoConstant, size_role, value_role}
 use Rattle.x_rules.specs.declared.fault.RuleCode.TheVariants as rule_codes
 use Rattle.x_schema.specs.SchemaOf.{number_in, numbers_of}
 use Rattle.x_compile.specs.Compile.{Item, definitions_of}
-use Rattle.x_laws.specs.Meant.{AreFaultless, IsEnumNumber, IsFaultless, IsSizeNumber, number_meant, sees}
+use Rattle.x_laws.specs.Meant.{AreFaultless, IsArrayNumber, IsEnumNumber, IsFaultless, IsSizeNumber, number_meant, sees}
 use Rattle.x_laws.proofs.EnumNumbers.{AtText, own_told}
 use Rattle.x_laws.proofs.EnumWords.{AllTold, IsTold, enums_told}
 use Rattle.x_laws.proofs.Faultless.{listed_rear, outcome_of, view_seen}
@@ -125,6 +125,24 @@ each_size definitions results are fine item d there word role v has is =
         let broken : IsBadSize d (sees definitions results item d) word = record { role = role; has_role = has; size = v; is_size = is; number = z; number_is = at; outside = e } in
         absurd (no_fault definitions results item d word rule_codes.BadSize h broken)
 
+-- a fixed size is not 0
+pub each_array : (definitions : List (Option Definition)) (results : List (Option Outcome))
+    → AreResults no_names definitions results → AreFaultless results → (item : ℕ) (d : Definition)
+    → slice_get definitions item ≡ Some (Some d) → (word : ℕ) (v : tree.Value)
+    → HasRole d word (FixedSize v) → IsArrayNumber (number_in (numbers_of definitions) v)
+each_array definitions results are fine item d there word v has =
+    let size = each_size definitions results are fine item d there word (FixedSize v) v has refl in
+    by size.0 size.1 size.2
+  where
+    by : (n : ℕ) → n < 2 ^ 32 → number_in (numbers_of definitions) v ≡ Some (pos n)
+        → IsArrayNumber (number_in (numbers_of definitions) v)
+    by (suc n) fits is = (suc n, omega arith, fits, is)
+    by zero fits is =
+        let h : IsFine definitions results item d = record { are = are; fine = fine; there = there } in
+        let zero_is = sym (value_number definitions results are fine item d there word (FixedSize v) v has refl) ∙ is in
+        let broken : IsEmptyArray d (sees definitions results item d) word = record { size = v; has_role = has; is_zero = zero_is } in
+        absurd (no_fault definitions results item d word rule_codes.EmptyArray h broken)
+
 -- ---- enumerators
 
 told_at : (gs : List Gloss) (at : ℕ) (es : List EnumeratorAt) (e : EnumeratorAt) → AllTold gs at es → IsAmong es e → IsTold gs at e
@@ -180,6 +198,13 @@ pub size_in_text : (text : List ℕ) (items : List Item) → IsFaultless text it
 size_in_text text items h item d there word role v has is =
     let fine = without_fault text items h in
     each_size (definitions_of items) (results_of items) fine.are fine.fine item d there word role v has is
+
+pub array_in : (text : List ℕ) (items : List Item) → IsFaultless text items → (item : ℕ) (d : Definition)
+    → slice_get (definitions_of items) item ≡ Some (Some d) → (word : ℕ) (v : tree.Value)
+    → HasRole d word (FixedSize v) → IsArrayNumber (number_in (numbers_of (definitions_of items)) v)
+array_in text items h item d there word v has =
+    let fine = without_fault text items h in
+    each_array (definitions_of items) (results_of items) fine.are fine.fine item d there word v has
 
 pub enumerator_in : (text : List ℕ) (items : List Item) → IsFaultless text items → (item : ℕ) (d : Definition)
     → slice_get (definitions_of items) item ≡ Some (Some d) → (e : EnumeratorAt) → IsAmong (enumerators d) e

@@ -129,6 +129,64 @@ first_of_numbers definitions s is p numbers first =
     first_in s numbers [] first.front first.rear p (subst (AreProceduresBehind s []) first.parts is.procedures)
     refl first.numbers_are first.none_before
 
+-- ---- and no others
+
+-- numbers that a table has with one more are those of that one, or the table had them
+came : (o : Option ProcedureNumbers) (table : Table) (x : CompactProcedure) (numbers : ProcedureNumbers)
+    (k : CompactProcedure) → lookup (same_numbers numbers) (with_procedure table o x) ≡ Some k
+    → (lookup (same_numbers numbers) table ≡ Some k) ⊎ (o ≡ Some numbers)
+came None table x numbers k has = inl has
+came (Some n) table x numbers k has = by (is_some (lookup (same_numbers n) table)) has
+  where
+    last : (b : Bool) → same_numbers numbers n ≡ b → cond b (Some x) None ≡ Some k → Some n ≡ Some numbers
+    last true same e = ap Some (sym (one_number numbers n same))
+    last false same e = absurd cc
+
+    behind : (o : Option CompactProcedure) → lookup (same_numbers numbers) table ≡ o
+        → lookup (same_numbers numbers) (table ++ (n, x) ∷ []) ≡ Some k
+        → (lookup (same_numbers numbers) table ≡ Some k) ⊎ (Some n ≡ Some numbers)
+    behind (Some y) is e =
+        inl (is ∙ sym (front_found (same_numbers numbers) table ((n, x) ∷ []) y is) ∙ e)
+    behind None is e =
+        inr (last (same_numbers numbers n) refl
+        (sym (rear_found (same_numbers numbers) table ((n, x) ∷ []) is) ∙ e))
+
+    by : (b : Bool) → lookup (same_numbers numbers) (cond b table (table ++ (n, x) ∷ [])) ≡ Some k
+        → (lookup (same_numbers numbers) table ≡ Some k) ⊎ (Some n ≡ Some numbers)
+    by true e = inl e
+    by false e = behind (lookup (same_numbers numbers) table) refl e
+
+-- a procedure of the text has the numbers
+abbrev IsOfOne : List Numbered → ProcedureNumbers → Type 0
+IsOfOne ps numbers = (p : Numbered) × IsAmong ps p × (numbers_by p ≡ Some numbers)
+
+only_in : (s : Schema) (numbers : ProcedureNumbers) (k : CompactProcedure) (table : Table)
+    (ps : List Numbered) → AreProceduresBehind s table ps → procedure_at s numbers ≡ Some k
+    → (lookup (same_numbers numbers) table ≡ Some k) ⊎ IsOfOne ps numbers
+only_in s numbers k table [] are has = inl (sym (ap (lookup (same_numbers numbers)) are) ∙ has)
+only_in s numbers k table (p ∷ ps) are has =
+    by (only_in s numbers k (with_procedure table (numbers_by p) are.0) ps are.2 has)
+  where
+    here : (lookup (same_numbers numbers) table ≡ Some k) ⊎ (numbers_by p ≡ Some numbers)
+        → (lookup (same_numbers numbers) table ≡ Some k) ⊎ IsOfOne (p ∷ ps) numbers
+    here (inl found) = inl found
+    here (inr is) = inr (p, among_first p ps, is)
+
+    by : (lookup (same_numbers numbers) (with_procedure table (numbers_by p) are.0) ≡ Some k) ⊎ IsOfOne ps numbers
+        → (lookup (same_numbers numbers) table ≡ Some k) ⊎ IsOfOne (p ∷ ps) numbers
+    by (inl found) = here (came (numbers_by p) table are.0 numbers k found)
+    by (inr rest) = inr (rest.0, among_more p rest.0 ps rest.1, rest.2)
+
+pub no_other : (definitions : List (Option Definition)) (s : Schema) → IsSchemaOf definitions s
+    → (numbers : ProcedureNumbers) (k : CompactProcedure) → procedure_at s numbers ≡ Some k
+    → IsOfOne (procedures_of definitions) numbers
+no_other definitions s is numbers k has = by (only_in s numbers k [] (procedures_of definitions) is.procedures has)
+  where
+    by : (lookup (same_numbers numbers) [] ≡ Some k) ⊎ IsOfOne (procedures_of definitions) numbers
+        → IsOfOne (procedures_of definitions) numbers
+    by (inl found) = absurd cc
+    by (inr one) = one
+
 -- ---- numbers of 32 bits
 
 word_in_range : (text : List ℕ) → is_word_number (value text) ≡ true → in_range text ≡ true

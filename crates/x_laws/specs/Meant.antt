@@ -98,11 +98,17 @@ pub record IsFaultless (text : List ℕ) (items : List Item) : Type 0 where
   pub compiles : IsCompilation nothing_known text tokens items
   pub none : faults_of text items ≡ []
 
--- it is a number from 0 to 2^32-1
+-- ---- numbers
+
+-- there is a number, from 0 to 2^32-1
 abbrev pub IsSizeNumber : Option ℤ → Type 0
 IsSizeNumber number = (n : ℕ) × (n < 2 ^ 32) × (number ≡ Some (pos n))
 
--- it is a number from -2^31 to 2^31-1
+-- there is one from 1 to 2^32-1
+abbrev pub IsArrayNumber : Option ℤ → Type 0
+IsArrayNumber number = (n : ℕ) × (0 < n) × (n < 2 ^ 32) × (number ≡ Some (pos n))
+
+-- there is one from -2^31 to 2^31-1
 abbrev pub IsEnumNumber : Option ℤ → Type 0
 IsEnumNumber number = (z : ℤ) × (number ≡ Some z) × (is_enum_number z ≡ true)
 

@@ -8,7 +8,7 @@ ghost use Rattle.std.specs.Map.{lookup};
 ghost use Rattle.std.specs.Str.{bytes_eq};
 ghost use Rattle.x_text.specs.Limits.{most_text};
 ghost use Rattle.x_lex.specs.declared.kind.Kind.{Kind};
-ghost use Rattle.x_trees.specs.Gloss.{Role};
+ghost use Rattle.x_trees.specs.Gloss.{FixedSize, Role};
 ghost use Rattle.x_trees.specs.Tree.{Definition, Enum, Enumerator, Value};
 ghost use Rattle.x_outline.specs.Bodies.{BodyAt, EnumeratorAt, bodies, enumerators};
 ghost use Rattle.x_rules.specs.Constants.{number_at};
@@ -16,11 +16,12 @@ ghost use Rattle.x_rules.specs.Results.{Outcome, AreResults, no_names};
 ghost use Rattle.x_rules.specs.Rules.{HasRole, size_role, value_role};
 ghost use Rattle.x_rules.specs.declared.fault.RuleCode.TheVariants.{Unknown};
 ghost use Rattle.x_schema.specs.ProceduresOf.{Numbered, numbers_by, procedures_of};
-ghost use Rattle.x_schema.specs.Schema.{Schema, IsProcedureAt, id_named, named_type};
+ghost use Rattle.x_schema.specs.Schema.{Schema, IsProcedureAt, id_named, named_type, procedure_at};
 ghost use Rattle.x_schema.specs.SchemaOf.{number_in, numbers_of, words_from};
 ghost use Rattle.x_schema.specs.Schemas.{IsSchemaOf};
 ghost use Rattle.x_schema.specs.declared.schema.NamedType.{NamedType};
 ghost use Rattle.x_schema.specs.declared.schema.TypeId.{TypeId};
+ghost use Rattle.x_schema.specs.declared.procedure.CompactProcedure.{CompactProcedure};
 ghost use Rattle.x_schema.specs.declared.procedure.ProcedureNumbers.{ProcedureNumbers};
 ghost use Rattle.x_value.specs.Dumps.{IsShown};
 ghost use Rattle.x_value.specs.Shown.{Node};
@@ -38,8 +39,9 @@ ghost use Rattle.x_wire.specs.MessageTexts.{Told};
 ghost use Rattle.x_wire.specs.StreamTexts.{IsStreamText, IsTextOf};
 ghost use Rattle.x_opening.specs.Opening.{AreRead};
 ghost use Rattle.x_opening.specs.declared.known.KnownSource.{KnownSource};
-ghost use Rattle.x_laws.specs.Meant.{AreFaultless, HasProcedure, IsAsDeclared, IsEnumNumber, IsFaultless};
-ghost use Rattle.x_laws.specs.Meant.{IsFirstOfNumbers, IsSizeNumber, IsTypeName, IsUsedAsType, MeansType};
+ghost use Rattle.x_laws.specs.Meant.{AreFaultless, HasProcedure, IsArrayNumber, IsAsDeclared, IsEnumNumber};
+ghost use Rattle.x_laws.specs.Meant.{IsFaultless, IsFirstOfNumbers, IsSizeNumber, IsTypeName, IsUsedAsType};
+ghost use Rattle.x_laws.specs.Meant.{MeansType};
 ghost use Rattle.x_laws.specs.Meant.{number_meant, sees, words_meant};
 ghost use Rattle.x_laws.specs.Places.{IsShownAt, PlacedNode, ShowsSlice};
 ghost use Rattle.x_laws.specs.Showing.{ShowsAlike, CallsAlike};
@@ -125,8 +127,8 @@ pub fn schema_numbers()
 {}
 
 /// In a text without a fault, before which nothing is known, each value, size and case has a number, by which
-/// the text's types are made (`values`); that of a size is one from 0 to 2^32-1 (`sizes`), and that of each
-/// enumerator one from -2^31 to 2^31-1 (`enumerators`).
+/// the text's types are made (`values`); that of a size is one from 0 to 2^32-1 (`sizes`), of a fixed one
+/// from 1 on (`arrays`), and that of each enumerator one from -2^31 to 2^31-1 (`enumerators`).
 pub fn each_number()
     ensures values { (text : List ℕ) (items : List Item) → IsFaultless text items → (item : ℕ)
         (d : Definition) → slice_get (definitions_of items) item ≡ Some (Some d) → (word : ℕ) (role : Role)
@@ -136,6 +138,9 @@ pub fn each_number()
         (d : Definition) → slice_get (definitions_of items) item ≡ Some (Some d) → (word : ℕ) (role : Role)
         (v : Value) → HasRole d word role → size_role role ≡ Some v
         → IsSizeNumber (number_in (numbers_of (definitions_of items)) v) }
+    ensures arrays { (text : List ℕ) (items : List Item) → IsFaultless text items → (item : ℕ)
+        (d : Definition) → slice_get (definitions_of items) item ≡ Some (Some d) → (word : ℕ) (v : Value)
+        → HasRole d word (FixedSize v) → IsArrayNumber (number_in (numbers_of (definitions_of items)) v) }
     ensures enumerators { (text : List ℕ) (items : List Item) → IsFaultless text items → (item : ℕ)
         (d : Definition) → slice_get (definitions_of items) item ≡ Some (Some d) → (e : EnumeratorAt)
         → IsAmong (enumerators d) e
@@ -144,7 +149,7 @@ pub fn each_number()
 
 /// In a text without a fault, before which nothing is known, each procedure has its three numbers, of 32 bits
 /// (`numbers`). A schema has, for three numbers, what is declared of the first procedure of the text that has
-/// them (`first`).
+/// them (`first`), and nothing where none has them (`no_other`).
 pub fn each_procedure()
     ensures numbers { (text : List ℕ) (items : List Item) → IsFaultless text items → (p : Numbered)
         → IsAmong (procedures_of (definitions_of items)) p
@@ -152,6 +157,9 @@ pub fn each_procedure()
     ensures first { (definitions : List (Option Definition)) (s : Schema) → IsSchemaOf definitions s
         → (p : Numbered) (numbers : ProcedureNumbers) → IsFirstOfNumbers definitions p numbers
         → HasProcedure s numbers p.procedure }
+    ensures no_other { (definitions : List (Option Definition)) (s : Schema) → IsSchemaOf definitions s
+        → (numbers : ProcedureNumbers) (kept : CompactProcedure) → procedure_at s numbers ≡ Some kept
+        → (p : Numbered) × IsAmong (procedures_of definitions) p × (numbers_by p ≡ Some numbers) }
 {}
 
 /// In a text without a fault, before which nothing is known, the type of each name is as the name's first
@@ -167,14 +175,18 @@ pub fn schema_targets()
         → (name : List ℕ) → IsUsedAsType definitions name → IsSome (id_named s name) }
 {}
 
-/// The laws above, of a text that was compiled without a fault, before which nothing is known, and of its
-/// schema: it has the types that the text's names declare (`types`), each as the name's first declarer
-/// declares it (`forms`), and one of each name that is used as a type (`uses`); its numbers are those that
-/// names mean by the rules (`numbers`).
+/// What `schema_types`, `schema_targets` and `schema_numbers` say, of a text that was compiled without a
+/// fault, before which nothing is known, and of a schema of its definitions: that has the types that the
+/// text's names declare (`types`) and mean (`meant`), each as the name's first declarer declares it
+/// (`forms`), and one of each name that is used as a type (`uses`); the numbers by which it is made are those
+/// that names mean by the rules (`numbers`), and those by which the rules go at a word (`values`).
 pub fn types_of_text()
     ensures types { (text : List ℕ) (items : List Item) (s : Schema) → IsFaultless text items
         → IsSchemaOf (definitions_of items) s → (name : List ℕ)
         → IsSome (id_named s name) ↔ IsTypeName (definitions_of items) name }
+    ensures meant { (text : List ℕ) (items : List Item) (s : Schema) → IsFaultless text items
+        → IsSchemaOf (definitions_of items) s → (name : List ℕ)
+        → IsSome (id_named s name) ↔ MeansType (definitions_of items) (map (λ i. i.result) items) name }
     ensures forms { (text : List ℕ) (items : List Item) (s : Schema) → IsFaultless text items
         → IsSchemaOf (definitions_of items) s → (name : List ℕ) (t : NamedType)
         → named_type s name ≡ Some t → IsAsDeclared (definitions_of items) s name t.form }
@@ -184,6 +196,11 @@ pub fn types_of_text()
     ensures numbers { (text : List ℕ) (items : List Item) → IsFaultless text items → (name : List ℕ)
         → lookup (bytes_eq name) (numbers_of (definitions_of items))
         ≡ number_meant (definitions_of items) (map (λ i. i.result) items) name }
+    ensures values { (text : List ℕ) (items : List Item) → IsFaultless text items → (item : ℕ)
+        (d : Definition) → slice_get (definitions_of items) item ≡ Some (Some d) → (word : ℕ) (role : Role)
+        (v : Value) → HasRole d word role → value_role role ≡ Some v
+        → number_in (numbers_of (definitions_of items)) v
+        ≡ number_at (sees (definitions_of items) (map (λ i. i.result) items) item d) (enumerators d) word v }
 {}
 
 /// Where nothing is known before a text no name is, so the laws of such texts hold of it.

@@ -8,8 +8,8 @@ use Rattle.x_lex.specs.contracts.mark.Mark.{the_type}
 use Rattle.x_lex.specs.declared.mark.Mark.{Mark}
 use Rattle.x_lex.specs.declared.mark.Mark.TheVariants as marks
 
--- How each mark is written, in the order of the marks: the keywords of RFC 4506, section 6.2, with `program`
--- and `version` of RFC 5531, section 12, and `long`, which is this project's; then the punctuation of the
+-- How each mark is written, in the order of the marks: the keywords of RFC 4506, section 6.4, with `program`
+-- and `version` of RFC 5531, section 12.3, and `long`, which is this project's; then the punctuation of the
 -- grammar (RFC 4506, section 6.3, and RFC 5531, section 12.2).
 abbrev pub spellings : List (List ℕ × Mark)
 spellings =

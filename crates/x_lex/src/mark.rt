@@ -2,7 +2,7 @@
 ghost use Rattle.std.specs.Prelude.{◌≡◌, ◌≢◌, ◌<◌, [], ◌∷◌, map, length, slice_index, slice_index_or};
 ghost use Rattle.x_lex.specs.Marks.{mark_of, text_of, place_of, punctuation, keyword};
 
-/// A word with one spelling: a keyword (RFC 4506, section 6.2, and RFC 5531, section 12; `long` is one of
+/// A word with one spelling: a keyword (RFC 4506, section 6.4, and RFC 5531, section 12.3; `long` is one of
 /// this project) or a punctuation mark of the grammar.
 #[derive(Clone, Copy, Debug, PartialEq, Eq)]
 pub enum Mark {

@@ -34,7 +34,8 @@ definitions_edit known olds news recut = record {
 
 -- These are the numbers of the items that the change makes stale: both texts are compiled from their starts,
 -- and an item with a definition is stale if it is recut, or if it sees a name that it declares or mentions
--- otherwise than before. `recut` is what the change does to the items (`IsItemPatch`).
+-- otherwise than before. `recut` is what the change does to the items (`IsItemPatch`): so the definitions
+-- that the edit leaves are those of the new text.
 pub record AreStaleItems (known : KnownText) (change : Change) (ts us : List (Kind × ℕ))
     (recut : ItemChange (Unit {0})) (stale : List ℕ) : Type 0 where
   pub olds : List Item

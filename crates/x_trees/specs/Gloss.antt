@@ -80,7 +80,8 @@ abbrev pub spell_value : tree.Value → Word
 spell_value (tree.Number t) = Number t
 spell_value (tree.Named t) = Name t
 
--- the keywords of a type: RFC 4506, sections 4.1, 4.2 and 4.4 to 4.8, and `long` and `unsigned` alone
+-- the keywords of a type: RFC 4506, sections 4.1, 4.2 and 4.4 to 4.8; `long`, `unsigned long` and `unsigned`
+-- alone are this project's
 abbrev pub basic_marks : Basic → List Mark
 basic_marks basics.Int = marks.Int ∷ []
 basic_marks basics.UnsignedInt = marks.Unsigned ∷ marks.Int ∷ []
