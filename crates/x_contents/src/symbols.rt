@@ -192,14 +192,14 @@ fn add_to_level(
     ensures { OnOk result (levels_of levels.new.items ≡ with_sibling no_text (levels_of levels.old.items)
         depth (shown_text shown.now children.now)) }
 {
-    let mut text = siblings_of(alloc, levels, depth.saturating_sub(1))?;
+    let mut text = take_siblings(alloc, levels, depth.saturating_sub(1))?;
     write_symbol(alloc, shown, children, &mut text)?;
     levels.push(Level { depth, text })?;
     Ok(())
 }
 
-/// Takes the text of what stands in a part at a depth: a list that goes on.
-fn siblings_of(alloc: Global, levels: &mut Vec<Level>, depth: usize) -> Result<Vec<u8>, NoMemory>
+/// Takes the text of what stands in a part at a depth, as a list that goes on: a new one where there is none.
+fn take_siblings(alloc: Global, levels: &mut Vec<Level>, depth: usize) -> Result<Vec<u8>, NoMemory>
     ensures children { IfOk result
         (λ text. text.items ≡ children_in no_text (levels_of levels.old.items) depth) }
     ensures left { OnOk result (levels_of levels.new.items ≡ left_in (levels_of levels.old.items) depth) }

@@ -123,10 +123,6 @@ pub record HasNames (known : KnownText) (text : List ℕ) (n : ℕ) (names : Lis
   pub named : take 1024 (names ++ flat_map names_in (definitions_of (drop n items)))
       ≡ compared (definitions_of items)
 
-pub names_none : {P : List Item → Type 0} {known : KnownText} (text : List ℕ) → Compiles known text P
-    → HasNames known text 0 []
-names_none text c = record { tokens = c.0; items = c.1; compiles = c.2; few = omega arith; named = refl }
-
 -- those of one item more
 pub names_more : {known : KnownText} (text : List ℕ) (n m count : ℕ) (d : Option Definition)
     (names new : List (List ℕ)) → m ≡ n + 1 → n < count

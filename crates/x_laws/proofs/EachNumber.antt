@@ -1,5 +1,6 @@
 -- Each value, size, case and enumerator of a text without a fault has its number.
-use Rattle.std.proofs.Common.{◌≡◌, ◌<◌, ◌^◌, ◌⊎◌, inl, inr, ℕ, zero, suc, ℤ, pos, negsuc, Bool, true, false, cond, map, List, [], ◌∷◌, Option, None, Some, refl, sym, ap, subst, ◌∙◌, arith}
+use Rattle.std.proofs.Common.{◌≡◌, ◌<◌, ◌^◌, ◌⊎◌, inl, inr, ℕ, zero, suc, ℤ, pos, negsuc, Bool, true, false}
+use Rattle.std.proofs.Common.{cond, map, List, [], ◌∷◌, Option, None, Some, refl, sym, ap, subst, ◌∙◌, arith}
 use Rattle.std.specs.Prelude.{IsSome, is_some, slice_get, nat_lt}
 use Rattle.std.specs.List.{IsAmong}
 use Rattle.std.specs.Map.{lookup}
@@ -14,18 +15,18 @@ use Rattle.x_trees.specs.declared.names.mention.Use.TheVariants as uses
 use Rattle.x_trees.proofs.AmongLemmas.{among_cases, among_none}
 use Rattle.x_numbers.specs.Numbers.{in_range, is_enum_number, is_word_number, number_spelled}
 use Rattle.x_outline.specs.Bodies.{EnumeratorAt, enumerators}
-use Rattle.x_rules.specs.Constants.{Known, is_declared_before, knowns, limit_of, number_at, number_before, number_named, number_seen}
+use Rattle.x_rules.specs.Constants.{Known, is_declared_before, knowns, limit_of, number_at, number_before}
+use Rattle.x_rules.specs.Constants.{number_named, number_seen}
 use Rattle.x_rules.specs.Results.{AreResults, Outcome, no_names, result_at, view_by}
 use Rattle.x_rules.specs.Rules.{HasRole, IsBadSize, IsEmptyArray, IsNoConstant, size_role, value_role}
 use Rattle.x_rules.specs.declared.fault.RuleCode.TheVariants as rule_codes
 use Rattle.x_schema.specs.SchemaOf.{number_in, numbers_of}
-use Rattle.x_compile.specs.Compile.{Item, definitions_of}
-use Rattle.x_laws.specs.Meant.{AreFaultless, IsArrayNumber, IsEnumNumber, IsFaultless, IsSizeNumber, number_meant, sees}
+use Rattle.x_laws.specs.Meant.{AreFaultless, IsArrayNumber, IsEnumNumber, IsSizeNumber, number_meant, sees}
 use Rattle.x_laws.proofs.EnumNumbers.{AtText, own_told}
 use Rattle.x_laws.proofs.EnumWords.{AllTold, IsTold, enums_told}
 use Rattle.x_laws.proofs.Faultless.{listed_rear, outcome_of, view_seen}
-use Rattle.x_laws.proofs.GoodNumbers.{AllGood, IsFine, IsGood, IsNumber, all_good, no_fault, spelled, value_known}
-use Rattle.x_laws.proofs.NoFaults.{without_fault}
+use Rattle.x_laws.proofs.GoodNumbers.{AllGood, IsFine, IsGood, IsNumber, all_good, no_fault, spelled}
+use Rattle.x_laws.proofs.GoodNumbers.{value_known}
 use Rattle.x_laws.proofs.Mentioned.{IsValue, mentioned_listed, no_mention_fault, used_value}
 use Rattle.x_laws.proofs.Paired.{value_mentioned}
 use Rattle.x_laws.proofs.SchemaNumbers.{schema_numbers}
@@ -43,7 +44,8 @@ known_before (k ∷ ks) limit n good h =
     (λ e. known_before ks limit n good.1 e)
   where
     by : (b c : Bool) → cond b c (is_declared_before (map (λ x. x.enumerator) ks) limit n) ≡ true
-        → (is_declared_before (map (λ x. x.enumerator) ks) limit n ≡ true → IsNumber (number_before ks limit n))
+        → (is_declared_before (map (λ x. x.enumerator) ks) limit n ≡ true
+        → IsNumber (number_before ks limit n))
         → IsNumber (cond b (cond c k.number None) (number_before ks limit n))
     by true true e more = (good.0.0, good.0.1)
     by true false e more = absurd cc
@@ -58,8 +60,11 @@ named_has definitions results item d word role n h has is =
     let m : Mention = record { name = n; word = word; usage = uses.Value; tag = None } in
     let among = value_mentioned d word role n has is in
     let o = outcome_of definitions results item d h.are h.there in
-    let no_mention = no_mention_fault d see o.outcome.faults m o.are_faults (h.fine item o.outcome o.is) among in
-    let listed = listed_rear n (map (λ x. x.name) (declared d)) (map (λ x. x.name) (mentioned d)) (mentioned_listed (mentioned d) m among) in
+    let no_mention =
+    no_mention_fault d see o.outcome.faults m o.are_faults (h.fine item o.outcome o.is) among in
+    let listed =
+    listed_rear n (map (λ x. x.name) (declared d)) (map (λ x. x.name) (mentioned d))
+    (mentioned_listed (mentioned d) m among) in
     let view : see n ≡ view_by no_names definitions (result_at results) item n =
     view_seen d (view_by no_names definitions (result_at results) item) n listed in
     let before = is_declared_before (enumerators d) (limit_of word) n in
@@ -67,8 +72,10 @@ named_has definitions results item d word role n h has is =
     let own : before ≡ true → IsNumber (number_before (knowns see (enumerators d)) (limit_of word) n) =
     λ e. known_before (knowns see (enumerators d)) (limit_of word) n (all_good definitions results item d h)
     (ap (λ l. is_declared_before l (limit_of word) n) (known_enumerators see [] None (enumerators d)) ∙ e) in
-    subst (λ w. IsNumber (number_seen w (number_before (knowns see (enumerators d)) (limit_of word) n))) (sym view)
-    (value_known definitions results item n before (number_before (knowns see (enumerators d)) (limit_of word) n) h.are h.fine
+    subst (λ w. IsNumber (number_seen w (number_before (knowns see (enumerators d)) (limit_of word) n)))
+    (sym view)
+    (value_known definitions results item n before
+    (number_before (knowns see (enumerators d)) (limit_of word) n) h.are h.fine
     (subst (λ w. IsValue w before) view value) own)
 
 value_has : (definitions : List (Option Definition)) (results : List (Option Outcome)) (item : ℕ)
@@ -80,19 +87,21 @@ value_has definitions results item d word role (tree.Number text) h has is = by 
     by : (b : Bool) → in_range text ≡ b → IsNumber (number_spelled text)
     by true e = spelled text e
     by false e =
-        let broken : IsNoConstant d word = record { role = role; has_role = has; text = text; is_value = is; outside = e } in
+        let broken : IsNoConstant d word =
+        record { role = role; has_role = has; text = text; is_value = is; outside = e } in
         absurd (no_fault definitions results item d word rule_codes.Range h (inl broken))
 value_has definitions results item d word role (tree.Named n) h has is =
     named_has definitions results item d word role n h has is
 
-pub each_value : (definitions : List (Option Definition)) (results : List (Option Outcome)) → AreResults no_names definitions results
+pub each_value : (definitions : List (Option Definition)) (results : List (Option Outcome))
+    → AreResults no_names definitions results
     → AreFaultless results → (item : ℕ) (d : Definition) → slice_get definitions item ≡ Some (Some d)
     → (word : ℕ) (role : Role) (v : tree.Value) → HasRole d word role → value_role role ≡ Some v
-    → IsNumber (number_in (numbers_of definitions) v)
+    → IsSome (number_in (numbers_of definitions) v)
 each_value definitions results are fine item d there word role v has is =
     let h : IsFine definitions results item d = record { are = are; fine = fine; there = there } in
     let z = value_has definitions results item d word role v h has is in
-    (z.0, value_number definitions results are fine item d there word role v has is ∙ z.1)
+    ap is_some (value_number definitions results are fine item d there word role v has is ∙ z.1)
 
 -- ---- sizes
 
@@ -105,7 +114,8 @@ as_size : (z : ℤ) → is_word_number z ≡ true → IsSizeNumber (Some z)
 as_size (pos n) is = (n, grind (arith, nat_tests), refl)
 as_size (negsuc n) is = absurd cc
 
-pub each_size : (definitions : List (Option Definition)) (results : List (Option Outcome)) → AreResults no_names definitions results
+pub each_size : (definitions : List (Option Definition)) (results : List (Option Outcome))
+    → AreResults no_names definitions results
     → AreFaultless results → (item : ℕ) (d : Definition) → slice_get definitions item ≡ Some (Some d)
     → (word : ℕ) (role : Role) (v : tree.Value) → HasRole d word role → size_role role ≡ Some v
     → IsSizeNumber (number_in (numbers_of definitions) v)
@@ -114,7 +124,8 @@ each_size definitions results are fine item d there word role v has is =
     let h : IsFine definitions results item d = record { are = are; fine = fine; there = there } in
     let value = size_value role v is in
     let z = value_has definitions results item d word role v h has value in
-    subst IsSizeNumber (sym (value_number definitions results are fine item d there word role v has value ∙ z.1))
+    subst IsSizeNumber
+    (sym (value_number definitions results are fine item d there word role v has value ∙ z.1))
     (as_size z.0 (by z.0 z.1 (is_word_number z.0) refl))
   where
     by : (z : ℤ) → number_at (sees definitions results item d) (enumerators d) word v ≡ Some z → (b : Bool)
@@ -122,7 +133,16 @@ each_size definitions results are fine item d there word role v has is =
     by z at true e = e
     by z at false e =
         let h : IsFine definitions results item d = record { are = are; fine = fine; there = there } in
-        let broken : IsBadSize d (sees definitions results item d) word = record { role = role; has_role = has; size = v; is_size = is; number = z; number_is = at; outside = e } in
+        let broken : IsBadSize d (sees definitions results item d) word =
+        record {
+          role = role;
+          has_role = has;
+          size = v;
+          is_size = is;
+          number = z;
+          number_is = at;
+          outside = e;
+        } in
         absurd (no_fault definitions results item d word rule_codes.BadSize h broken)
 
 -- a fixed size is not 0
@@ -139,13 +159,16 @@ each_array definitions results are fine item d there word v has =
     by (suc n) fits is = (suc n, omega arith, fits, is)
     by zero fits is =
         let h : IsFine definitions results item d = record { are = are; fine = fine; there = there } in
-        let zero_is = sym (value_number definitions results are fine item d there word (FixedSize v) v has refl) ∙ is in
-        let broken : IsEmptyArray d (sees definitions results item d) word = record { size = v; has_role = has; is_zero = zero_is } in
+        let zero_is =
+        sym (value_number definitions results are fine item d there word (FixedSize v) v has refl) ∙ is in
+        let broken : IsEmptyArray d (sees definitions results item d) word =
+        record { size = v; has_role = has; is_zero = zero_is } in
         absurd (no_fault definitions results item d word rule_codes.EmptyArray h broken)
 
 -- ---- enumerators
 
-told_at : (gs : List Gloss) (at : ℕ) (es : List EnumeratorAt) (e : EnumeratorAt) → AllTold gs at es → IsAmong es e → IsTold gs at e
+told_at : (gs : List Gloss) (at : ℕ) (es : List EnumeratorAt) (e : EnumeratorAt) → AllTold gs at es
+    → IsAmong es e → IsTold gs at e
 told_at gs at [] e all among = absurd (among_none e among)
 told_at gs at (x ∷ xs) e all among = by (among_cases x e xs among) (λ rest. told_at gs at xs e all.1 rest)
   where
@@ -163,52 +186,24 @@ meant_good definitions results item d h e among =
     let names = known_enumerators see [] None (enumerators d) in
     let good = all_good definitions results item d (record { are = h.are; fine = h.fine; there = h.there }) in
     subst IsGood
-    (sym (own_meant definitions results item d e.name here.at h.are h.fine h.there here.first here.item_is here.kind_is ∙ h.own e.name))
+    (sym (own_meant definitions results item d e.name here.at h.are h.fine h.there here.first here.item_is
+    here.kind_is ∙ h.own e.name))
     (named_good (knowns see (enumerators d)) e good (subst (λ l. IsAmong l e) (sym names) among))
 
-pub each_enumerator : (definitions : List (Option Definition)) (results : List (Option Outcome)) → AreResults no_names definitions results
+pub each_enumerator : (definitions : List (Option Definition)) (results : List (Option Outcome))
+    → AreResults no_names definitions results
     → AreFaultless results → (item : ℕ) (d : Definition) → slice_get definitions item ≡ Some (Some d)
-    → (e : EnumeratorAt) → IsAmong (enumerators d) e → IsEnumNumber (lookup (bytes_eq e.name) (numbers_of definitions))
-each_enumerator definitions results are fine item (tree.Const name value) there e among = absurd (among_none e among)
-each_enumerator definitions results are fine item (tree.Program name versions number) there e among = absurd (among_none e among)
+    → (e : EnumeratorAt) → IsAmong (enumerators d) e
+    → IsEnumNumber (lookup (bytes_eq e.name) (numbers_of definitions))
+each_enumerator definitions results are fine item (tree.Const name value) there e among = absurd
+    (among_none e among)
+each_enumerator definitions results are fine item (tree.Program name versions number) there e among = absurd
+    (among_none e among)
 each_enumerator definitions results are fine item (tree.Typedef d) there e among =
     subst IsGood (sym (schema_numbers definitions results are fine e.name))
-    (meant_good definitions results item (tree.Typedef d) (record { are = are; fine = fine; there = there; own = λ m. refl }) e among)
+    (meant_good definitions results item (tree.Typedef d)
+    (record { are = are; fine = fine; there = there; own = λ m. refl }) e among)
 each_enumerator definitions results are fine item (tree.NewType name body) there e among =
     subst IsGood (sym (schema_numbers definitions results are fine e.name))
-    (meant_good definitions results item (tree.NewType name body) (record { are = are; fine = fine; there = there; own = λ m. refl }) e among)
-
--- ---- a text
-
-abbrev results_of : List Item → List (Option Outcome)
-results_of items = map (λ i. i.result) items
-
-pub value_in : (text : List ℕ) (items : List Item) → IsFaultless text items → (item : ℕ) (d : Definition)
-    → slice_get (definitions_of items) item ≡ Some (Some d) → (word : ℕ) (role : Role) (v : tree.Value)
-    → HasRole d word role → value_role role ≡ Some v → IsSome (number_in (numbers_of (definitions_of items)) v)
-value_in text items h item d there word role v has is =
-    let fine = without_fault text items h in
-    let z = each_value (definitions_of items) (results_of items) fine.are fine.fine item d there word role v has is in
-    ap is_some z.1
-
-pub size_in_text : (text : List ℕ) (items : List Item) → IsFaultless text items → (item : ℕ) (d : Definition)
-    → slice_get (definitions_of items) item ≡ Some (Some d) → (word : ℕ) (role : Role) (v : tree.Value)
-    → HasRole d word role → size_role role ≡ Some v
-    → IsSizeNumber (number_in (numbers_of (definitions_of items)) v)
-size_in_text text items h item d there word role v has is =
-    let fine = without_fault text items h in
-    each_size (definitions_of items) (results_of items) fine.are fine.fine item d there word role v has is
-
-pub array_in : (text : List ℕ) (items : List Item) → IsFaultless text items → (item : ℕ) (d : Definition)
-    → slice_get (definitions_of items) item ≡ Some (Some d) → (word : ℕ) (v : tree.Value)
-    → HasRole d word (FixedSize v) → IsArrayNumber (number_in (numbers_of (definitions_of items)) v)
-array_in text items h item d there word v has =
-    let fine = without_fault text items h in
-    each_array (definitions_of items) (results_of items) fine.are fine.fine item d there word v has
-
-pub enumerator_in : (text : List ℕ) (items : List Item) → IsFaultless text items → (item : ℕ) (d : Definition)
-    → slice_get (definitions_of items) item ≡ Some (Some d) → (e : EnumeratorAt) → IsAmong (enumerators d) e
-    → IsEnumNumber (lookup (bytes_eq e.name) (numbers_of (definitions_of items)))
-enumerator_in text items h item d there e among =
-    let fine = without_fault text items h in
-    each_enumerator (definitions_of items) (results_of items) fine.are fine.fine item d there e among
+    (meant_good definitions results item (tree.NewType name body)
+    (record { are = are; fine = fine; there = there; own = λ m. refl }) e among)

@@ -1,5 +1,7 @@
 -- Each procedure of a text without a fault has its numbers, and a schema has the first of its numbers.
-use Rattle.std.proofs.Common.{◌≡◌, ◌<◌, ◌^◌, ◌⊎◌, inl, inr, ℕ, zero, suc, ℤ, pos, negsuc, Bool, true, false, cond, map, List, [], ◌∷◌, ◌++◌, length, Option, None, Some, refl, sym, ap, subst, ◌∙◌, arith}
+use Rattle.std.proofs.Common.{◌≡◌, ◌<◌, ◌^◌, ◌⊎◌, inl, inr, ℕ, zero, suc, ℤ, pos, negsuc, Bool, true, false}
+use Rattle.std.proofs.Common.{cond, map, List, [], ◌∷◌, ◌++◌, length, Option, None, Some, refl, sym, ap}
+use Rattle.std.proofs.Common.{subst, ◌∙◌, arith}
 use Rattle.std.specs.Prelude.{is_some, nat_le, nat_lt, neg_ℤ, option_and_then, slice_get}
 use Rattle.std.specs.List.{IsAmong, flat_map}
 use Rattle.std.specs.Map.{lookup}
@@ -10,25 +12,28 @@ use Rattle.x_lex.specs.declared.mark.Mark.TheVariants as marks
 use Rattle.x_trees.specs.Tree as tree
 use Rattle.x_trees.specs.Tree.{Definition}
 use Rattle.x_trees.specs.Words.{Fixed, Name, Number}
-use Rattle.x_trees.specs.Gloss.{Gloss, ProcedureNumber, ProgramNumber, Role, VersionNumber, gloss, glossed, others_by, passed_by, procedure_by, procedures_by, roles_where, version_by, versions_by}
+use Rattle.x_trees.specs.Gloss.{Gloss, ProcedureNumber, ProgramNumber, Role, VersionNumber, gloss, glossed}
+use Rattle.x_trees.specs.Gloss.{others_by, passed_by, procedure_by, procedures_by, roles_where, version_by}
+use Rattle.x_trees.specs.Gloss.{versions_by}
 use Rattle.x_trees.specs.Gloss.{Declares, ProcedureName, VersionName, VoidArgument, VoidResult}
 use Rattle.x_trees.specs.declared.names.declared_name.NameKind.TheVariants as kinds
-use Rattle.x_trees.proofs.AmongLemmas.{among_cases, among_first, among_front, among_more, among_none, among_parts, among_rear}
+use Rattle.x_trees.proofs.AmongLemmas.{among_cases, among_first, among_front, among_more, among_none}
+use Rattle.x_trees.proofs.AmongLemmas.{among_parts, among_rear}
 use Rattle.x_numbers.specs.Numbers.{in_range, is_negative, is_word_number, magnitude, number_spelled, value}
 use Rattle.x_rules.specs.Results.{AreResults, Outcome, no_names}
 use Rattle.x_rules.specs.Rules.{HasRole, IsNoNumber, number_role}
 use Rattle.x_rules.specs.declared.fault.RuleCode.TheVariants as rule_codes
 use Rattle.x_schema.specs.ProceduresOf as told
-use Rattle.x_schema.specs.ProceduresOf.{AreProceduresBehind, Numbered, Table, number_of, numbers_by, numbers_from, procedures_declared, procedures_in, procedures_of, with_procedure}
+use Rattle.x_schema.specs.ProceduresOf.{AreProceduresBehind, Numbered, Table, number_of, numbers_by}
+use Rattle.x_schema.specs.ProceduresOf.{numbers_from, procedures_declared, procedures_in, procedures_of}
+use Rattle.x_schema.specs.ProceduresOf.{with_procedure}
 use Rattle.x_schema.specs.Schema.{Schema, procedure_at, same_numbers}
 use Rattle.x_schema.specs.Schemas.{IsSchemaOf}
 use Rattle.x_schema.specs.SchemaOf.{unsigned_word}
 use Rattle.x_schema.specs.declared.procedure.CompactProcedure.{CompactProcedure}
 use Rattle.x_schema.specs.declared.procedure.ProcedureNumbers.{ProcedureNumbers}
-use Rattle.x_compile.specs.Compile.{Item, definitions_of}
-use Rattle.x_laws.specs.Meant.{AreFaultless, HasProcedure, IsFaultless, IsFirstOfNumbers}
+use Rattle.x_laws.specs.Meant.{AreFaultless, HasProcedure, IsFirstOfNumbers}
 use Rattle.x_laws.proofs.GoodNumbers.{IsFine, no_fault}
-use Rattle.x_laws.proofs.NoFaults.{without_fault}
 
 -- ---- the first of its numbers
 
@@ -114,7 +119,8 @@ first_in s numbers table [] rear p are none is others = record {
     here : lookup (same_numbers numbers) (with_procedure table (numbers_by p) are.0) ≡ Some are.0
     here =
         ap (λ o. lookup (same_numbers numbers) (with_procedure table o are.0)) is
-        ∙ ap (λ o. lookup (same_numbers numbers) (cond (is_some o) table (table ++ (numbers, are.0) ∷ []))) none
+        ∙ ap (λ o. lookup (same_numbers numbers)
+        (cond (is_some o) table (table ++ (numbers, are.0) ∷ []))) none
         ∙ rear_found (same_numbers numbers) table ((numbers, are.0) ∷ []) none
         ∙ ap (λ b. cond b (Some are.0) None) (same_self numbers)
 first_in s numbers table (q ∷ front) rear p are none is others =
@@ -126,7 +132,8 @@ pub first_of_numbers : (definitions : List (Option Definition)) (s : Schema) →
     → (p : Numbered) (numbers : ProcedureNumbers) → IsFirstOfNumbers definitions p numbers
     → HasProcedure s numbers p.procedure
 first_of_numbers definitions s is p numbers first =
-    first_in s numbers [] first.front first.rear p (subst (AreProceduresBehind s []) first.parts is.procedures)
+    first_in s numbers [] first.front first.rear p
+    (subst (AreProceduresBehind s []) first.parts is.procedures)
     refl first.numbers_are first.none_before
 
 -- ---- and no others
@@ -172,7 +179,8 @@ only_in s numbers k table (p ∷ ps) are has =
     here (inl found) = inl found
     here (inr is) = inr (p, among_first p ps, is)
 
-    by : (lookup (same_numbers numbers) (with_procedure table (numbers_by p) are.0) ≡ Some k) ⊎ IsOfOne ps numbers
+    by : (lookup (same_numbers numbers)
+        (with_procedure table (numbers_by p) are.0) ≡ Some k) ⊎ IsOfOne ps numbers
         → (lookup (same_numbers numbers) table ≡ Some k) ⊎ IsOfOne (p ∷ ps) numbers
     by (inl found) = here (came (numbers_by p) table are.0 numbers k found)
     by (inr rest) = inr (rest.0, among_more p rest.0 ps rest.1, rest.2)
@@ -180,7 +188,8 @@ only_in s numbers k table (p ∷ ps) are has =
 pub no_other : (definitions : List (Option Definition)) (s : Schema) → IsSchemaOf definitions s
     → (numbers : ProcedureNumbers) (k : CompactProcedure) → procedure_at s numbers ≡ Some k
     → IsOfOne (procedures_of definitions) numbers
-no_other definitions s is numbers k has = by (only_in s numbers k [] (procedures_of definitions) is.procedures has)
+no_other definitions s is numbers k has = by
+    (only_in s numbers k [] (procedures_of definitions) is.procedures has)
   where
     by : (lookup (same_numbers numbers) [] ≡ Some k) ⊎ IsOfOne (procedures_of definitions) numbers
         → IsOfOne (procedures_of definitions) numbers
@@ -205,15 +214,19 @@ word_of (negsuc n) is = absurd cc
 
 number_known : (text : List ℕ) → is_word_number (value text) ≡ true → (n : ℕ) × (number_of text ≡ Some n)
 number_known text is =
-    let w = word_of (value text) is in
-    (w.0, ap (λ b. option_and_then unsigned_word (cond b (Some (value text)) None)) (word_in_range text is) ∙ w.1)
+    let w = word_of (value text) is in (
+      w.0,
+      ap (λ b. option_and_then unsigned_word (cond b (Some (value text)) None)) (word_in_range text is)
+          ∙ w.1,
+    )
 
 -- ---- the words of a program's numbers
 
 abbrev IsThere : Definition → Role → Type 0
 IsThere d role = (word : ℕ) × HasRole d word role
 
-there : (d : Definition) (g : Gloss) (role : Role) → IsAmong (gloss d) g → g.roles ≡ role ∷ [] → IsThere d role
+there : (d : Definition) (g : Gloss) (role : Role) → IsAmong (gloss d) g → g.roles ≡ role ∷ []
+    → IsThere d role
 there d g role (i, h) one = (
   i,
   record {
@@ -229,7 +242,8 @@ numbered text role = glossed (Number text) (role ∷ [])
 
 -- it stands behind `}` or `)`, and `=`
 abbrev ended : List ℕ → Role → Gloss → List Gloss
-ended text role close = close ∷ glossed (Fixed marks.Equals) [] ∷ numbered text role ∷ glossed (Fixed marks.Semicolon) [] ∷ []
+ended text role close = close ∷ glossed (Fixed marks.Equals) [] ∷ numbered text role ∷ glossed
+    (Fixed marks.Semicolon) [] ∷ []
 
 at_end : (text : List ℕ) (role : Role) (close : Gloss) → IsAmong (ended text role close) (numbered text role)
 at_end text role close = (2, (omega arith, refl))
@@ -240,10 +254,13 @@ brace = glossed (Fixed marks.CloseBrace) []
 abbrev parenthesis : Gloss
 parenthesis = glossed (Fixed marks.CloseParenthesis) []
 
-in_procedure : (p : tree.Procedure) → IsAmong (procedure_by glossed true p) (numbered p.number (ProcedureNumber p.number))
+in_procedure : (p : tree.Procedure)
+    → IsAmong (procedure_by glossed true p) (numbered p.number (ProcedureNumber p.number))
 in_procedure p =
     let g = numbered p.number (ProcedureNumber p.number) in
-    let passed = passed_by glossed true (VoidArgument (length p.others) ∷ []) p.first ++ others_by glossed true p.others in
+    let passed =
+    passed_by glossed true (VoidArgument (length p.others) ∷ []) p.first
+    ++ others_by glossed true p.others in
     let last = ended p.number (ProcedureNumber p.number) parenthesis in
     let name = glossed (Name p.name) (ProcedureName p.name ∷ []) in
     let opening = glossed (Fixed marks.OpenParenthesis) [] in
@@ -264,7 +281,8 @@ in_procedures (x ∷ xs) p among = by (among_cases x p xs among) (λ rest. in_pr
     by (inl is) next =
         among_front (procedure_by glossed true x) (procedures_by glossed true xs) g
         (subst (λ y. IsAmong (procedure_by glossed true y) g) is (in_procedure p))
-    by (inr rest) next = among_rear (procedure_by glossed true x) (procedures_by glossed true xs) g (next rest)
+    by (inr rest) next = among_rear (procedure_by glossed true x) (procedures_by glossed true xs) g
+        (next rest)
 
 -- what stands in braces behind a keyword and a name, and the number behind the braces
 in_braces : (keyword : Mark) (name text : List ℕ) (roles : List Role) (role : Role) (inside : List Gloss)
@@ -352,7 +370,9 @@ are_there (tree.NewType name body) p among = absurd (among_none p among)
 are_there (tree.Program name versions number) p among =
     let at = among_flat (procedures_in number) versions p among in
     let v = at.0 in
-    let one = among_mapped (λ q. record { program = number; version = v.number; procedure = q }) v.procedures p at.2 in
+    let one =
+    among_mapped
+    (λ q. record { program = number; version = v.number; procedure = q }) v.procedures p at.2 in
     let q = one.0 in
     let d = tree.Program name versions number in
     let own = numbered number (ProgramNumber number) in
@@ -362,22 +382,26 @@ are_there (tree.Program name versions number) p among =
       program = there d own (ProgramNumber number) (in_program name number versions own (inr refl)) refl;
       version =
           there d theirs (VersionNumber v.number)
-          (in_program name number versions theirs (inl (in_versions versions v theirs at.1 (in_version v theirs (inr refl))))) refl;
+          (in_program name number versions theirs
+          (inl (in_versions versions v theirs at.1 (in_version v theirs (inr refl))))) refl;
       procedure =
           there d last (ProcedureNumber q.number)
           (in_program name number versions last
-          (inl (in_versions versions v last at.1 (in_version v last (inl (in_procedures v.procedures q one.1)))))) refl;
+          (inl (in_versions versions v last at.1
+          (in_version v last (inl (in_procedures v.procedures q one.1)))))) refl;
     })
 
 number_has : (definitions : List (Option Definition)) (results : List (Option Outcome)) (item : ℕ)
     (d : Definition) (role : Role) (text : List ℕ) → IsFine definitions results item d → IsThere d role
     → number_role role ≡ Some text → (n : ℕ) × (number_of text ≡ Some n)
-number_has definitions results item d role text h at is = number_known text (by (is_word_number (value text)) refl)
+number_has definitions results item d role text h at is = number_known text
+    (by (is_word_number (value text)) refl)
   where
     by : (b : Bool) → is_word_number (value text) ≡ b → is_word_number (value text) ≡ true
     by true e = e
     by false e =
-        let broken : IsNoNumber d at.0 = record { role = role; has_role = at.1; text = text; is_number = is; outside = e } in
+        let broken : IsNoNumber d at.0 =
+        record { role = role; has_role = at.1; text = text; is_number = is; outside = e } in
         absurd (no_fault definitions results item d at.0 rule_codes.Range h (inr (inr (inl broken))))
 
 pub each_procedure : (definitions : List (Option Definition)) (results : List (Option Outcome))
@@ -394,16 +418,13 @@ each_procedure definitions results are fine p among =
         let here = slice_get_read definitions (length definitions) i (Some d) refl item.0 item.1 in
         let h : IsFine definitions results i d = record { are = are; fine = fine; there = here } in
         let words = are_there d p has in
-        let program = number_has definitions results i d (ProgramNumber p.program) p.program h words.program refl in
-        let version = number_has definitions results i d (VersionNumber p.version) p.version h words.version refl in
-        let procedure = number_has definitions results i d (ProcedureNumber p.procedure.number) p.procedure.number h words.procedure refl in (
+        let program =
+        number_has definitions results i d (ProgramNumber p.program) p.program h words.program refl in
+        let version =
+        number_has definitions results i d (VersionNumber p.version) p.version h words.version refl in
+        let procedure =
+        number_has definitions results i d
+        (ProcedureNumber p.procedure.number) p.procedure.number h words.procedure refl in (
           record { program = program.0; version = version.0; procedure = procedure.0 },
           λ k. numbers_from (program.1 k) (version.1 k) (procedure.1 k),
         )
-
-pub procedure_in : (text : List ℕ) (items : List Item) → IsFaultless text items → (p : Numbered)
-    → IsAmong (procedures_of (definitions_of items)) p
-    → (numbers : ProcedureNumbers) × (numbers_by p ≡ Some numbers)
-procedure_in text items h p among =
-    let fine = without_fault text items h in
-    each_procedure (definitions_of items) (map (λ i. i.result) items) fine.are fine.fine p among

@@ -129,6 +129,8 @@ stale_items known change ts us es fs p m n v w rs ks within old new with are =
       are_olds = compilation old;
       news = news;
       are_news = compilation new;
+      added = ap length (sym put_is) ∙ length-map p.fresh (λ e. kept_definition e.kept) ∙ long;
+      edited_is = ap definitions_after (sym edit_is) ∙ all;
       are =
           subst (λ a. AreStale (definitions_edit known olds news recut) a ks) after
           (subst (λ e. AreStale e (map found_result rs) ks) edit_is are);

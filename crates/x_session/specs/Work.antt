@@ -13,7 +13,7 @@ use Rattle.x_cutting.specs.ItemList.{ItemChange, counts}
 use Rattle.x_cutting.specs.Items.{IsCut}
 use Rattle.x_cutting.specs.Recut.{IsItemPatch}
 use Rattle.x_cutting.specs.declared.cutting.item_entry.ItemEntry.{ItemEntry}
-use Rattle.x_recheck.specs.Editing.{TextEdit}
+use Rattle.x_recheck.specs.Editing.{TextEdit, definitions_after}
 use Rattle.x_recheck.specs.Staleness.{AreStale}
 use Rattle.x_compile.specs.Compile.{Item, IsCompilation, definitions_of}
 use Rattle.x_compile.specs.Known.{KnownText, known_names}
@@ -34,14 +34,15 @@ definitions_edit known olds news recut = record {
 
 -- These are the numbers of the items that the change makes stale: both texts are compiled from their starts,
 -- and an item with a definition is stale if it is recut, or if it sees a name that it declares or mentions
--- otherwise than before. `recut` is what the change does to the items (`IsItemPatch`): so the definitions
--- that the edit leaves are those of the new text.
+-- otherwise than before. `recut` is what the change does to the items (`IsItemPatch`).
 pub record AreStaleItems (known : KnownText) (change : Change) (ts us : List (Kind × ℕ))
     (recut : ItemChange (Unit {0})) (stale : List ℕ) : Type 0 where
   pub olds : List Item
   pub are_olds : IsCompilation known change.old ts olds
   pub news : List Item
   pub are_news : IsCompilation known (edited_by change) us news
+  pub added : length (definitions_edit known olds news recut).put ≡ length recut.fresh
+  pub edited_is : definitions_after (definitions_edit known olds news recut) ≡ definitions_of news
   pub are : AreStale (definitions_edit known olds news recut) (map (λ i. i.result) news) stale
 
 -- The change took this work: as many tokens were lexed as are fresh, as many items parsed as are recut, and

@@ -30,13 +30,16 @@ returns c =
     let t1 = c.in_ok-extend_from_slice.ensures.items in
     let t2 = part_more old w1 children _ _ t1 c.in_ok-extend_from_slice-2.ensures.items in
     let t3 = part_more old w2 (codes ",\"kind\":") _ _ t2 c.in_ok-extend_from_slice-3.ensures.items in
-    let number = c.in_ok-write_number.ensures ∙ ap (λ n. c.extend_from_slice-3.new.self.items ++ decimal n) c.symbol_kind.ensures in
+    let number =
+    c.in_ok-write_number.ensures
+    ∙ ap (λ n. c.extend_from_slice-3.new.self.items ++ decimal n) c.symbol_kind.ensures in
     let t4 = part_more old w3 kind _ _ t3 number in
     let t5 = part_more old w4 (codes ",\"name\":") _ _ t4 c.in_ok-extend_from_slice-4.ensures.items in
     let t6 = part_more old w5 name _ _ t5 c.in_ok-write_string.ensures in
     let t7 = part_more old w6 (codes ",\"range\":") _ _ t6 c.in_ok-extend_from_slice-5.ensures.items in
     let t8 = part_more old w7 range _ _ t7 c.in_ok-write_range.ensures in
-    let t9 = part_more old w8 (codes ",\"selectionRange\":") _ _ t8 c.in_ok-extend_from_slice-6.ensures.items in
+    let t9 =
+    part_more old w8 (codes ",\"selectionRange\":") _ _ t8 c.in_ok-extend_from_slice-6.ensures.items in
     let t10 = part_more old w9 selection _ _ t9 c.in_ok-write_range-2.ensures in
     part_more old w10 (codes "},") _ _ t10 c.in_ok-extend_from_slice-7.ensures.items
     ∙ ap (λ l. old ++ l) (sym (append_assoc w10 (codes "}") (codes ",")))

@@ -4,7 +4,8 @@ use Rattle.x_trees.specs.View.{tree_at, view_definition}
 use Rattle.x_compile.specs.Compile.{definition_at}
 use Rattle.x_session.specs.Session.{Compiles}
 use Rattle.x_session.proofs.DeclaredLemmas.{short_at}
-use Rattle.x_explain.proofs.SuggestionLemmas.{HasNames, mapped_many, names_all, names_full, names_more, names_passed, only_none}
+use Rattle.x_explain.proofs.SuggestionLemmas.{HasNames, mapped_many, names_all, names_full, names_more}
+use Rattle.x_explain.proofs.SuggestionLemmas.{names_passed, only_none}
 use Rattle.x_explain.proofs.suggestions.compared_names.Goals as goal
 use Rattle.x_explain.proofs.suggestions.compared_names.Goals.{in-Some+in_ok-add_names, in_default}
 

@@ -1,8 +1,9 @@
-use Rattle.x_laws.proofs.EachProcedure.{first_of_numbers, no_other, procedure_in}
+use Rattle.x_laws.proofs.EachProcedure.{each_procedure, first_of_numbers, no_other}
+use Rattle.x_laws.proofs.NoFaults.{by_text}
 use Rattle.x_laws.proofs.laws.each_procedure.Goals as goal
 
 pub returns-clause-numbers : goal.returns-clause-numbers
-returns-clause-numbers c = procedure_in
+returns-clause-numbers c = by_text each_procedure
 
 pub returns-clause-first : goal.returns-clause-first
 returns-clause-first c = first_of_numbers

@@ -8,7 +8,9 @@ use Rattle.x_lsp.proofs.server.Server.carry_out.Goals as goal
 pub returns-in-Ok-answer-clause-said : goal.returns-in-Ok-answer-clause-said
 returns-in-Ok-answer-clause-said c =
     let text = c.in-Ok.ensures.text in
-    answered text.0 (said_so (view c.args.id.now) text.0 c.in-Ok.found.items _ text.1 (ap Some c.in-Ok-answer.ensures)) c.go_on.ensures.life
+    answered text.0
+    (said_so (view c.args.id.now) text.0 c.in-Ok.found.items _ text.1
+    (ap Some c.in-Ok-answer.ensures)) c.go_on.ensures.life
 
 pub returns-in-Err-answer-clause-said : goal.returns-in-Err-answer-clause-said
 returns-in-Err-answer-clause-said c = failed InternalError refl c.refused.ensures refl
@@ -18,12 +20,15 @@ returns-in-Err-clause-said c = failed c.in-Err.code c.in-Err.ensures.code c.refu
 
 pub returns-in-Ok-answer-clause-asked : goal.returns-in-Ok-answer-clause-asked
 returns-in-Ok-answer-clause-asked c = λ question is.
-    answered_by (view c.args.id.now) question _ _ c.in-Ok.found _ (c.in-Ok.ensures.asked question is) (ap Some c.in-Ok-answer.ensures)
+    answered_by (view c.args.id.now) question _ _ c.in-Ok.found _ (c.in-Ok.ensures.asked question is)
+    (ap Some c.in-Ok-answer.ensures)
 
 pub returns-in-Err-answer-clause-asked : goal.returns-in-Err-answer-clause-asked
 returns-in-Err-answer-clause-asked c = λ question is.
-    unanswered_by (view c.args.id.now) question _ _ c.in-Ok.found _ (c.in-Ok.ensures.asked question is) c.refused.ensures
+    unanswered_by (view c.args.id.now) question _ _ c.in-Ok.found _
+    (c.in-Ok.ensures.asked question is) c.refused.ensures
 
 pub returns-in-Err-clause-asked : goal.returns-in-Err-clause-asked
 returns-in-Err-clause-asked c = λ question is.
-    refused_by (view c.args.id.now) question _ _ c.in-Err.code _ (c.in-Err.ensures.asked question is) c.refused-in-Err.ensures
+    refused_by (view c.args.id.now) question _ _ c.in-Err.code _
+    (c.in-Err.ensures.asked question is) c.refused-in-Err.ensures
