@@ -1,4 +1,5 @@
 mod FoldLemmas
+mod PhraseLemmas
 mod StringTextLemmas
 mod SymbolLemmas
 mod TokenLemmas

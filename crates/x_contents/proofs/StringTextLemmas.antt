@@ -1,11 +1,12 @@
 -- Bytes that stand for themselves in a string of JSON.
-use Rattle.std.proofs.Common.{◌≡◌, ℕ, zero, suc, ◌<◌, ◌≤◌, true, List, [], ◌∷◌, ◌++◌, ap, arith, refl, sym, ◌∙◌}
+use Rattle.std.proofs.Common.{◌≡◌, ℕ, zero, suc, ◌<◌, ◌≤◌, true, List, [], ◌∷◌, ◌++◌, ap, arith, refl}
+use Rattle.std.proofs.Common.{◌∙◌}
 use Rattle.std.specs.List.{list_all}
 use Rattle.std.specs.Str.{IsAscii}
 use Rattle.std.specs.Str.Lossy.{utf8_lossy}
 use Rattle.std.proofs.lemmas.Bool.{and_parts, eqb-false, leb-true, ltb-true, not-true}
 use Rattle.std.proofs.lemmas.Str.{IsUtf8-from_ascii, utf8_lossy-IsUtf8}
-use Rattle.json.specs.Print.{escape, escape_byte, quoted}
+use Rattle.json.specs.Print.{escape, quoted}
 use Rattle.json.proofs.Printed.Strings.{escape_byte_plain}
 use Rattle.serde_json.specs.Data.{string}
 use Rattle.serde_json.specs.Written.{compact_text}
@@ -41,5 +42,7 @@ ascii [] is i = omega arith
 ascii (b ∷ s) is zero = let most = (plain b (and_parts _ _ is).0).most in omega (arith, most)
 ascii (b ∷ s) is (suc i) = ascii s (and_parts (is_plain_byte b) (list_all is_plain_byte s) is).1 i
 
-pub plain_text : (s : List ℕ) → list_all is_plain_byte s ≡ true → compact_text (string (utf8_lossy s)) ≡ 34 ∷ (s ++ 34 ∷ [])
-plain_text s is = ap quoted (utf8_lossy-IsUtf8 s (IsUtf8-from_ascii s (ascii s is))) ∙ ap (λ l. 34 ∷ (l ++ 34 ∷ [])) (escaped s is)
+pub plain_text : (s : List ℕ) → list_all is_plain_byte s ≡ true
+    → compact_text (string (utf8_lossy s)) ≡ 34 ∷ (s ++ 34 ∷ [])
+plain_text s is = ap quoted (utf8_lossy-IsUtf8 s (IsUtf8-from_ascii s (ascii s is)))
+    ∙ ap (λ l. 34 ∷ (l ++ 34 ∷ [])) (escaped s is)

@@ -1,5 +1,7 @@
 pub mod DocumentTexts
 pub mod Folds
+pub mod Kept
+pub mod Phrases
 pub mod Reading
 pub mod StringTexts
 pub mod Symbols

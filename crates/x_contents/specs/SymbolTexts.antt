@@ -6,7 +6,6 @@ use Rattle.serde_json.specs.Written.{compact_text}
 use Rattle.x_frames.specs.ListTexts.{ended}
 use Rattle.x_lex.specs.Places.{Lexeme}
 use Rattle.x_trees.specs.Tree.{Definition}
-use Rattle.x_positions.specs.declared.positions.Position.{Position}
 use Rattle.x_positions.specs.declared.range.Range.{Range}
 use Rattle.x_lookups.specs.Parts.{parts_of}
 use Rattle.x_lookups.specs.declared.parts.Part.{Part}
@@ -24,15 +23,18 @@ symbol_text kind name range selection children = codes "{\"children\":" ++ child
     ++ codes ",\"kind\":" ++ decimal (symbol_kind kind) ++ codes ",\"name\":" ++ compact_text (string name)
     ++ codes ",\"range\":" ++ range ++ codes ",\"selectionRange\":" ++ selection ++ codes "}"
 
--- a position, and a range from the start of one to the end of another
-abbrev pub position_text : Position → List ℕ
-position_text p = codes "{\"character\":" ++ decimal p.character ++ codes ",\"line\":" ++ decimal p.line
-    ++ codes "}"
-
+-- a range from the start of one to the end of another
 abbrev pub range_text : Range → Range → List ℕ
 range_text first last =
-    codes "{\"end\":" ++ position_text last.end ++ codes ",\"start\":" ++ position_text first.start
-    ++ codes "}"
+    codes "{\"end\":{\"character\":" ++ decimal last.end.character
+    ++ codes ",\"line\":" ++ decimal last.end.line
+    ++ codes "},\"start\":{\"character\":" ++ decimal first.start.character
+    ++ codes ",\"line\":" ++ decimal first.start.line ++ codes "}}"
+
+-- a list of symbols, brackets and all, or that of none
+abbrev pub list_text : Option (List ℕ) → List ℕ
+list_text None = codes "[]"
+list_text (Some list) = list
 
 -- the symbol that is shown so, with these symbols in it and a comma behind it
 abbrev pub shown_text : Shown → (children : List ℕ) → List ℕ

@@ -12,11 +12,13 @@ ghost use Rattle.x_frames.specs.Lives.{is_of_question};
 ghost use Rattle.x_frames.specs.declared.method.DocumentQuestion.TheVariants.{Folds, Symbols, Text, Tokens};
 ghost use Rattle.x_contents.specs.DocumentTexts.{told_text};
 ghost use Rattle.x_contents.specs.Folds.{folds_in};
+ghost use Rattle.x_contents.specs.Kept.{found_text};
 ghost use Rattle.x_contents.specs.Symbols.{symbols_in};
 ghost use Rattle.x_contents.specs.Tokens.{numbers_in, tokens_data};
 ghost use Rattle.x_contents.specs.Wanting.{wanted_in};
 
 use crate::folds::folds;
+use crate::found::Found;
 use crate::generated::text;
 use crate::symbols::symbols;
 use crate::tokens::tokens;
@@ -41,26 +43,27 @@ pub fn answer_about_document(
     session: &Session,
     question: DocumentQuestion,
     params: Option<&Value>,
-) -> Result<Vec<u8>, ErrorCode>
-    ensures value { IfOk result (λ text. IsText text.items) }
+) -> Result<Found, ErrorCode>
+    ensures value { IfOk result (λ found. IsText (found_text found)) }
     ensures code { IfErr result (λ code. is_of_question code ≡ true) }
-    ensures symbols { question ≡ Symbols → IfOk result (λ text. Compiles session.now.known session.now.text
-        (λ items. text.items ≡ compact_text (array (items_of (symbols_in encoding shown.now items))))) }
-    ensures folds { question ≡ Folds → IfOk result (λ text. Compiles session.now.known session.now.text
-        (λ items. text.items ≡ compact_text (array (items_of (folds_in shown.now (tokens_of items)))))) }
-    ensures tokens { question ≡ Tokens → IfOk result (λ text. Compiles session.now.known session.now.text
-        (λ items. text.items ≡ compact_text (tokens_data (numbers_in encoding shown.now items)))) }
+    ensures symbols { question ≡ Symbols → IfOk result (λ found. Compiles session.now.known session.now.text
+        (λ items. found_text found ≡ compact_text (array (items_of (symbols_in encoding shown.now items))))) }
+    ensures folds { question ≡ Folds → IfOk result (λ found. Compiles session.now.known session.now.text
+        (λ items. found_text found
+        ≡ compact_text (array (items_of (folds_in shown.now (tokens_of items)))))) }
+    ensures tokens { question ≡ Tokens → IfOk result (λ found. Compiles session.now.known session.now.text
+        (λ items. found_text found ≡ compact_text (tokens_data (numbers_in encoding shown.now items)))) }
     ensures text { question ≡ Text → IfSome (wanted_in (option_map (λ p. view p.now) params.entry))
-        (λ wanted. IfOk result (λ text. Compiles session.now.known session.now.text
-        (λ items. text.items ≡ compact_text
+        (λ wanted. IfOk result (λ found. Compiles session.now.known session.now.text
+        (λ items. found_text found ≡ compact_text
         (string (utf8_lossy (told_text wanted session.now.base session.now.text items)))))) }
 {
     match question {
-        DocumentQuestion::Symbols => Ok(symbols(alloc, encoding, shown, session)?),
-        DocumentQuestion::Folds => Ok(folds(alloc, shown, session)?),
-        DocumentQuestion::Tokens => Ok(tokens(alloc, encoding, shown, session)?),
+        DocumentQuestion::Symbols => Ok(Found::Phrased(symbols(alloc, encoding, shown, session)?)),
+        DocumentQuestion::Folds => Ok(Found::Text(folds(alloc, shown, session)?)),
+        DocumentQuestion::Tokens => Ok(Found::Text(tokens(alloc, encoding, shown, session)?)),
         DocumentQuestion::Text => match which_in(params) {
-            Some(wanted) => Ok(text(alloc, session, wanted)?),
+            Some(wanted) => Ok(Found::Text(text(alloc, session, wanted)?)),
             None => Err(ErrorCode::InvalidParams),
         },
     }

@@ -4,11 +4,16 @@
 
 mod answers;
 mod folds;
+mod found;
 mod generated;
+mod phrased_text;
+mod phrases;
 mod string_text;
 mod symbols;
 mod tokens;
 mod wanted;
 
 pub use answers::answer_about_document;
+pub use found::Found;
+pub use phrased_text::PhrasedText;
 pub use wanted::Wanted;

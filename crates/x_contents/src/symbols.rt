@@ -8,24 +8,25 @@ ghost use Rattle.x_lex.specs.Places.{lexeme};
 ghost use Rattle.x_trees.specs.View.{tree_at};
 ghost use Rattle.x_session.specs.Session.{Compiles};
 ghost use Rattle.x_lookups.specs.Parts.{parts_of};
+ghost use Rattle.x_contents.specs.Kept.{spelt};
 ghost use Rattle.x_contents.specs.Reading.{levels_of, outline_of};
 ghost use Rattle.x_contents.specs.Symbols.{children_in, is_below, last_of, left_in, symbol_kind, symbols_in};
 ghost use Rattle.x_contents.specs.Symbols.{token_range, with_definition, with_part, with_sibling, with_told};
-ghost use Rattle.x_contents.specs.SymbolTexts.{no_text, position_text, range_text, shown_text, text_by};
+ghost use Rattle.x_contents.specs.SymbolTexts.{list_text, no_text, range_text, shown_text, text_by};
 ghost use Rattle.x_contents.specs.SymbolTexts.{text_of, with_text};
 
-use crate::string_text::write_string;
+use crate::phrased_text::PhrasedText;
+use crate::phrases::Phrase;
 use std::alloc::Global;
-use x_frames::{end_list, write_number};
 use x_item::{Definition, next_item};
 use x_lex::Token;
 use x_lookups::{Part, PartKind, parts_of};
-use x_positions::{Encoding, Places, Position, Range};
+use x_positions::{Encoding, Places, Range};
 use x_session::Session;
 use x_text::{NoMemory, Source};
 
-/// The room for the text of the first symbols of a list. It grows where there are more.
-const ROOM: usize = 1024;
+/// The room for the first symbols of a list, each of about 60 bytes. It grows where there are more.
+const ROOM: usize = 512;
 
 /// What a document defines: a `DocumentSymbol` of each definition, with what stands in it.
 pub(crate) fn symbols(
@@ -33,11 +34,11 @@ pub(crate) fn symbols(
     encoding: Encoding,
     shown: &Source,
     session: &Session,
-) -> Result<Vec<u8>, NoMemory>
+) -> Result<PhrasedText, NoMemory>
     ensures { IfOk result (λ text. Compiles session.now.known session.now.text
-        (λ items. text.items ≡ compact_text (array (items_of (symbols_in encoding shown.now items))))) }
+        (λ items. spelt text ≡ compact_text (array (items_of (symbols_in encoding shown.now items))))) }
 {
-    let mut text = Vec::from_slice(alloc, b"[")?;
+    let mut text = first_list(alloc)?;
     let mut walk = session.tokens();
     let mut tokens = Vec::new(alloc);
     let mut ranges = Vec::new(alloc);
@@ -48,7 +49,7 @@ pub(crate) fn symbols(
         let definition = session.definition(item);
         write_parsed(alloc, definition, &tokens, &ranges, &mut text)?;
     }
-    end_list(&mut text)?;
+    text.end_list()?;
     Ok(text)
 }
 
@@ -78,10 +79,10 @@ fn write_parsed(
     definition: Option<&Definition>,
     tokens: &[Token],
     ranges: &[Range],
-    text: &mut Vec<u8>,
+    text: &mut PhrasedText,
 ) -> Result<(), NoMemory>
-    ensures { OnOk result (text.new.items
-        ≡ with_text text.old.items (map lexeme tokens.now) ranges.now (tree_at definition.entry)) }
+    ensures { OnOk result (spelt text.new
+        ≡ with_text (spelt text.old) (map lexeme tokens.now) ranges.now (tree_at definition.entry)) }
 {
     match definition {
         Some(_) => write_definition(alloc, tokens, ranges, text),
@@ -94,10 +95,10 @@ fn write_definition(
     alloc: Global,
     tokens: &[Token],
     ranges: &[Range],
-    text: &mut Vec<u8>,
+    text: &mut PhrasedText,
 ) -> Result<(), NoMemory>
-    ensures { OnOk result (text.new.items ≡ with_definition no_text
-        (text_of (map lexeme tokens.now) ranges.now) text.old.items (parts_of (map lexeme tokens.now))) }
+    ensures { OnOk result (spelt text.new ≡ with_definition no_text
+        (text_of (map lexeme tokens.now) ranges.now) (spelt text.old) (parts_of (map lexeme tokens.now))) }
 {
     let mut levels = Vec::new(alloc);
     for part in &parts_of(alloc, tokens)? {
@@ -113,32 +114,33 @@ fn write_part(
     ranges: &[Range],
     part: &Part,
     levels: &mut Vec<Level>,
-    text: &mut Vec<u8>,
+    text: &mut PhrasedText,
 ) -> Result<(), NoMemory>
     ensures { OnOk result (outline_of levels.new text.new ≡ with_part no_text
         (text_of (map lexeme tokens.now) ranges.now) (outline_of levels.old text.old) part.now) }
 {
     let Some(mut children) = take_level(levels, part.depth) else {
-        return write_told(alloc, tokens, ranges, part, b"[]", levels, text);
+        return write_told(alloc, tokens, ranges, part, None, levels, text);
     };
-    end_list(&mut children)?;
-    write_told(alloc, tokens, ranges, part, &children, levels, text)
+    children.end_list()?;
+    write_told(alloc, tokens, ranges, part, Some(&children), levels, text)
 }
 
-/// Writes the symbol of a part, with this list of those that stand in it.
+/// Writes the symbol of a part, with this list of those that stand in it, if there are any.
 fn write_told(
     alloc: Global,
     tokens: &[Token],
     ranges: &[Range],
     part: &Part,
-    children: &[u8],
+    children: Option<&PhrasedText>,
     levels: &mut Vec<Level>,
-    text: &mut Vec<u8>,
+    text: &mut PhrasedText,
 ) -> Result<(), NoMemory>
     ensures { OnOk result (outline_of levels.new text.new ≡ with_told no_text (outline_of levels.old text.old)
         part.now.depth (text_by part.now.kind (slice_get (map lexeme tokens.now) part.now.name)
         (slice_get ranges.now part.now.first) (slice_get ranges.now part.now.name)
-        (slice_get ranges.now part.now.last) children.now)) }
+        (slice_get ranges.now part.now.last)
+        (list_text (option_map (λ list. spelt list.now) children.entry)))) }
 {
     let Some(shown) = shown_part(tokens, ranges, part) else {
         return Ok(());
@@ -154,12 +156,12 @@ fn write_told(
 #[derive(Drop)]
 struct Level {
     depth: usize,
-    text: Vec<u8>,
+    text: PhrasedText,
 }
 
 /// Takes the text of what stands in a part at a depth, if there is any.
-fn take_level(levels: &mut Vec<Level>, depth: usize) -> Option<Vec<u8>>
-    ensures children { unwrap_or (option_map (λ text. text.items) result) no_text
+fn take_level(levels: &mut Vec<Level>, depth: usize) -> Option<PhrasedText>
+    ensures children { unwrap_or (option_map (λ text. spelt text) result) no_text
         ≡ children_in no_text (levels_of levels.old.items) depth }
     ensures left { levels_of levels.new.items ≡ left_in (levels_of levels.old.items) depth }
 {
@@ -187,10 +189,10 @@ fn add_to_level(
     levels: &mut Vec<Level>,
     depth: usize,
     shown: &Shown,
-    children: &[u8],
+    children: Option<&PhrasedText>,
 ) -> Result<(), NoMemory>
     ensures { OnOk result (levels_of levels.new.items ≡ with_sibling no_text (levels_of levels.old.items)
-        depth (shown_text shown.now children.now)) }
+        depth (shown_text shown.now (list_text (option_map (λ list. spelt list.now) children.entry)))) }
 {
     let mut text = take_siblings(alloc, levels, depth.saturating_sub(1))?;
     write_symbol(alloc, shown, children, &mut text)?;
@@ -199,9 +201,13 @@ fn add_to_level(
 }
 
 /// Takes the text of what stands in a part at a depth, as a list that goes on: a new one where there is none.
-fn take_siblings(alloc: Global, levels: &mut Vec<Level>, depth: usize) -> Result<Vec<u8>, NoMemory>
+fn take_siblings(
+    alloc: Global,
+    levels: &mut Vec<Level>,
+    depth: usize,
+) -> Result<PhrasedText, NoMemory>
     ensures children { IfOk result
-        (λ text. text.items ≡ children_in no_text (levels_of levels.old.items) depth) }
+        (λ text. spelt text ≡ children_in no_text (levels_of levels.old.items) depth) }
     ensures left { OnOk result (levels_of levels.new.items ≡ left_in (levels_of levels.old.items) depth) }
 {
     match take_level(levels, depth) {
@@ -211,11 +217,11 @@ fn take_siblings(alloc: Global, levels: &mut Vec<Level>, depth: usize) -> Result
 }
 
 /// A list in which nothing stands yet, with room for the first.
-fn first_list(alloc: Global) -> Result<Vec<u8>, NoMemory>
-    ensures { IfOk result (λ text. text.items ≡ no_text) }
+fn first_list(alloc: Global) -> Result<PhrasedText, NoMemory>
+    ensures { IfOk result (λ text. spelt text ≡ no_text) }
 {
-    let mut text = Vec::with_capacity(alloc, ROOM)?;
-    text.push(b'[')?;
+    let mut text = PhrasedText::with_capacity(alloc, ROOM)?;
+    text.add(b"[")?;
     Ok(text)
 }
 
@@ -251,50 +257,55 @@ fn shown_part<'t>(tokens: &[Token<'t>], ranges: &[Range], part: &Part) -> Option
     })
 }
 
-/// Writes a symbol, with this list of those that stand in it, and a comma behind it.
+/// Writes a symbol, with this list of those that stand in it, if there are any, and a comma behind it.
 fn write_symbol(
     alloc: Global,
     shown: &Shown,
-    children: &[u8],
-    text: &mut Vec<u8>,
+    children: Option<&PhrasedText>,
+    text: &mut PhrasedText,
 ) -> Result<(), NoMemory>
-    ensures { OnOk result (text.new.items ≡ text.old.items ++ shown_text shown.now children.now) }
+    ensures { OnOk result (spelt text.new ≡ spelt text.old
+        ++ shown_text shown.now (list_text (option_map (λ list. spelt list.now) children.entry))) }
 {
-    text.extend_from_slice(b"{\"children\":")?;
-    text.extend_from_slice(children)?;
-    text.extend_from_slice(b",\"kind\":")?;
-    write_number(text, symbol_kind(shown.kind))?;
-    text.extend_from_slice(b",\"name\":")?;
-    write_string(alloc, shown.name, text)?;
-    text.extend_from_slice(b",\"range\":")?;
-    write_range(text, &shown.range)?;
-    text.extend_from_slice(b",\"selectionRange\":")?;
-    write_range(text, &shown.selection)?;
-    text.extend_from_slice(b"},")?;
+    text.add_phrase(Phrase::Children)?;
+    write_list(children, text)?;
+    text.add_phrase(Phrase::Kind)?;
+    text.add_number(symbol_kind(shown.kind))?;
+    text.add_phrase(Phrase::Name)?;
+    text.add_string(alloc, shown.name)?;
+    text.add_phrase(Phrase::Range)?;
+    write_range(&shown.range, text)?;
+    text.add_phrase(Phrase::Selection)?;
+    write_range(&shown.selection, text)?;
+    text.add(b"},")?;
+    Ok(())
+}
+
+/// Writes a list of symbols, or one of none.
+fn write_list(list: Option<&PhrasedText>, text: &mut PhrasedText) -> Result<(), NoMemory>
+    ensures { OnOk result
+        (spelt text.new ≡ spelt text.old ++ list_text (option_map (λ list. spelt list.now) list.entry)) }
+{
+    match list {
+        Some(list) => text.add_text(list)?,
+        None => text.add(b"[]")?,
+    }
     Ok(())
 }
 
 /// Writes a range.
-fn write_range(text: &mut Vec<u8>, range: &Range) -> Result<(), NoMemory>
-    ensures { OnOk result (text.new.items ≡ text.old.items ++ range_text range.now range.now) }
+fn write_range(range: &Range, text: &mut PhrasedText) -> Result<(), NoMemory>
+    ensures { OnOk result (spelt text.new ≡ spelt text.old ++ range_text range.now range.now) }
 {
-    text.extend_from_slice(b"{\"end\":")?;
-    write_position(text, range.end)?;
-    text.extend_from_slice(b",\"start\":")?;
-    write_position(text, range.start)?;
-    text.extend_from_slice(b"}")?;
-    Ok(())
-}
-
-/// Writes a position.
-fn write_position(text: &mut Vec<u8>, position: Position) -> Result<(), NoMemory>
-    ensures { OnOk result (text.new.items ≡ text.old.items ++ position_text position) }
-{
-    text.extend_from_slice(b"{\"character\":")?;
-    write_number(text, position.character)?;
-    text.extend_from_slice(b",\"line\":")?;
-    write_number(text, position.line)?;
-    text.extend_from_slice(b"}")?;
+    text.add_phrase(Phrase::End)?;
+    text.add_number(range.end.character)?;
+    text.add_phrase(Phrase::Line)?;
+    text.add_number(range.end.line)?;
+    text.add_phrase(Phrase::Start)?;
+    text.add_number(range.start.character)?;
+    text.add_phrase(Phrase::Line)?;
+    text.add_number(range.start.line)?;
+    text.add_phrase(Phrase::RangeEnd)?;
     Ok(())
 }
 

@@ -30,25 +30,30 @@ before_so files blanks shown front bytes from text front_is bytes_are own own_te
     (subst (λ t. IsBefore front from t text.session.known) (sym own_text) before))
 
 -- what is opened behind these files, of this text
-is_compiled : (files : List ℕ) (blanks : Bool) (shown front bytes : List ℕ) (from : FromC) (text : FollowedText)
+is_compiled : (files : List ℕ) (blanks : Bool) (shown front bytes : List ℕ) (from : FromC)
+    (text : FollowedText)
     → front ≡ files ++ constants_of blanks shown → bytes ≡ compiled_of blanks shown
     → text.files.items ≡ front → text.session.text ≡ bytes → text.from_c ≡ from
     → IsBefore front from bytes text.session.known → IsCompiled files blanks shown text
 is_compiled files blanks shown front bytes from text front_is bytes_are own own_text own_from before = record {
   files_are = own ∙ front_is;
   text_is = own_text ∙ bytes_are;
-  before = merely (before_so files blanks shown front bytes from text front_is bytes_are own own_text own_from before);
+  before = merely (before_so files blanks shown front bytes from text front_is bytes_are own own_text
+      own_from before);
 }
 
-pub opened_so : {E : Type 0} (r : Result FollowedText E) (files : List ℕ) (blanks : Bool) (shown front bytes : List ℕ)
+pub opened_so : {E : Type 0} (r : Result FollowedText E) (files : List ℕ) (blanks : Bool)
+    (shown front bytes : List ℕ)
     (from : FromC) → front ≡ files ++ constants_of blanks shown → bytes ≡ compiled_of blanks shown
-    → IfOk r (λ t. t.files.items ≡ front) → IfOk r (λ t. t.session.text ≡ bytes) → IfOk r (λ t. t.from_c ≡ from)
+    → IfOk r (λ t. t.files.items ≡ front) → IfOk r (λ t. t.session.text ≡ bytes)
+    → IfOk r (λ t. t.from_c ≡ from)
     → IfOk r (λ t. IsBefore front from bytes t.session.known) → IfOk r (IsCompiled files blanks shown)
 opened_so (Ok t) files blanks shown front bytes from f b own text own_from before =
     is_compiled files blanks shown front bytes from t f b own text own_from before
 opened_so (Err e) files blanks shown front bytes from f b own text own_from before = tt
 
-pub followed_so : {T E : Type 0} (r : Result T E) (files : List ℕ) (blanks : Bool) (shown front bytes : List ℕ)
+pub followed_so : {T E : Type 0} (r : Result T E) (files : List ℕ) (blanks : Bool)
+    (shown front bytes : List ℕ)
     (from : FromC) (t : FollowedText) → front ≡ files ++ constants_of blanks shown
     → bytes ≡ compiled_of blanks shown → OnOk r (t.files.items ≡ front) → OnOk r (t.session.text ≡ bytes)
     → t.from_c ≡ from → OnOk r ∥ IsBefore front from bytes t.session.known ∥₁
@@ -81,9 +86,12 @@ over_replaced (Ok x) old new over same had = merely over
 over_replaced (Err e) old new over same had = subst (λ t. ∥ IsOver t ∥₁) (sym same) had
 
 -- why it is not compiled, behind these files
-pub not_compiled : {T : Type 0} (r : Result T TextFault) (files : List ℕ) (from : FromC) (blanks warns : Bool) (most : ℕ)
-    (shown front bytes : List ℕ) → front ≡ files ++ constants_of blanks shown → bytes ≡ compiled_of blanks shown
-    → (IsErrOf r TooLarge → ∥ (most_text < length bytes) ⊎ IsCrowded front from bytes ∥₁) → (IsErrOf r BadRange → ⊥)
+pub not_compiled : {T : Type 0} (r : Result T TextFault) (files : List ℕ) (from : FromC)
+    (blanks warns : Bool) (most : ℕ)
+    (shown front bytes : List ℕ) → front ≡ files ++ constants_of blanks shown
+    → bytes ≡ compiled_of blanks shown
+    → (IsErrOf r TooLarge → ∥ (most_text < length bytes) ⊎ IsCrowded front from bytes ∥₁)
+    → (IsErrOf r BadRange → ⊥)
     → IfErr r (IsNotCompiled (ground_with files from blanks warns most) shown)
 not_compiled (Ok x) files from blanks warns most shown front bytes f b large range = tt
 not_compiled (Err BadRange) files from blanks warns most shown front bytes f b large range = range refl
@@ -93,8 +101,10 @@ not_compiled (Err TooLarge) files from blanks warns most shown front bytes f b l
 not_compiled (Err NoMemory) files from blanks warns most shown front bytes f b large range = tt
 
 -- one of two is too large, by other names
-pub large_so : (files files' : List ℕ) (from from' : FromC) (text text' : List ℕ) → files' ≡ files → from' ≡ from → text' ≡ text
-    → (most_text < length text') ⊎ IsCrowded files' from' text' → (most_text < length text) ⊎ IsCrowded files from text
+pub large_so : (files files' : List ℕ) (from from' : FromC) (text text' : List ℕ) → files' ≡ files
+    → from' ≡ from → text' ≡ text
+    → (most_text < length text') ⊎ IsCrowded files' from' text' → (most_text < length text)
+    ⊎ IsCrowded files from text
 large_so files files' from from' text text' f c t large =
     subst (λ s. (most_text < length s) ⊎ IsCrowded files from s) t
     (subst (λ d. (most_text < length text') ⊎ IsCrowded files d text') c

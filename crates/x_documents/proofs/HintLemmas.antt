@@ -1,5 +1,6 @@
 -- The hints of a text, one place after another, and those of names that are taken from C.
-use Rattle.std.proofs.Common.{◌≡◌, ℕ, suc, ◌+◌, ◌<◌, ◌++◌, List, [], ◌∷◌, map, take, drop, length, get_or, append_assoc}
+use Rattle.std.proofs.Common.{◌≡◌, ℕ, suc, ◌+◌, ◌<◌, ◌++◌, List, [], ◌∷◌, map, take, drop, length, get_or}
+use Rattle.std.proofs.Common.{append_assoc}
 use Rattle.std.proofs.Common.{drop-cons, sym, ap, subst, ◌∙◌}
 use Rattle.std.proofs.lemmas.List.{drop_more, map-append}
 use Rattle.serde_json.specs.Data.{Data}
@@ -11,7 +12,8 @@ use Rattle.x_published.specs.Diagnostics.{AreForeignHints, IsForeignHint}
 use Rattle.x_published.proofs.DiagnosticLemmas.{map-snoc}
 
 -- one more of what a list is to have behind what it has
-pub one_more : {X Y Z : Type 0} (told : X → Z) (wanted : Y → Z) (xs : List X) (x : X) (new : List X) (ys : List Y)
+pub one_more : {X Y Z : Type 0} (told : X → Z) (wanted : Y → Z) (xs : List X) (x : X) (new : List X)
+    (ys : List Y)
     (i : ℕ) (d : Y) (all : List Z) → i < length ys → new ≡ xs ++ x ∷ [] → told x ≡ wanted (get_or ys i d)
     → map told xs ++ map wanted (drop i ys) ≡ all → map told new ++ map wanted (drop (i + 1) ys) ≡ all
 one_more told wanted xs x new ys i d all lt pushed is had =

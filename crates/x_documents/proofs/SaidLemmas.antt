@@ -1,5 +1,6 @@
 -- What is said.
-use Rattle.std.proofs.Common.{◌≡◌, ◌∙◌, ℕ, ℤ, Bool, true, false, List, Option, None, Some, ap, codes, inl, inr, refl, subst, sym}
+use Rattle.std.proofs.Common.{◌≡◌, ◌∙◌, ℕ, ℤ, Bool, true, false, List, Option, None, Some, ap, codes, inl}
+use Rattle.std.proofs.Common.{inr, refl, subst, sym}
 use Rattle.std.specs.Prelude.{MatchBool}
 use Rattle.serde_json.specs.Data.{Data, object, string, number, unsigned, member, no_members}
 use Rattle.serde_json.specs.Written.{compact_text}
@@ -11,8 +12,12 @@ use Rattle.x_frames.specs.KeptSaid.{no_memory_note}
 
 -- what shows a text is a note
 shown_note : (told : List ℕ) → IsNote (compact_text (shown_data told))
-shown_note told =
-    (codes "window/showMessage", object (member (codes "message") (string told) (member (codes "type") (number (unsigned 1)) no_members)), refl)
+shown_note told = (
+  codes "window/showMessage",
+  object (member (codes "message") (string told)
+      (member (codes "type") (number (unsigned 1)) no_members)),
+  refl,
+)
 
 pub no_memory_is_note : IsNote no_memory_note
 no_memory_is_note = shown_note (codes "out of memory")
@@ -23,7 +28,8 @@ shows_note told said (inl is) = subst IsToNotification (sym is) (shown_note told
 shows_note told said (inr is) = subst IsToNotification (sym is) no_memory_is_note
 
 -- and so is what is shown to him only if something fell
-pub shows_note_if : (fell : Bool) (told : List ℕ) (said : Option (List ℕ)) → MatchBool fell (Shows told said) (said ≡ None) → IsToNotification said
+pub shows_note_if : (fell : Bool) (told : List ℕ) (said : Option (List ℕ))
+    → MatchBool fell (Shows told said) (said ≡ None) → IsToNotification said
 shows_note_if true told said shows = shows_note told said shows
 shows_note_if false told said is = subst IsToNotification (sym is) tt
 

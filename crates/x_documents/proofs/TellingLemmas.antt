@@ -1,5 +1,6 @@
 -- What is told of faults, one after another.
-use Rattle.std.proofs.Common.{◌≡◌, ◌∙◌, ℕ, ◌+◌, ◌<◌, ◌++◌, List, [], ◌∷◌, ap, get_or, length, subst, sym, take}
+use Rattle.std.proofs.Common.{◌≡◌, ◌∙◌, ℕ, ◌+◌, ◌<◌, ◌++◌, List, [], ◌∷◌, ap, get_or, length, subst, sym}
+use Rattle.std.proofs.Common.{take}
 use Rattle.serde_json.specs.Data.{Data}
 use Rattle.x_compile.specs.Compile.{Item}
 use Rattle.x_compile.specs.declared.fault.FaultPlace.{FaultPlace}
@@ -21,6 +22,7 @@ pub told_more : (c : Client) (uri shown text : List ℕ) (items : List Item) (pl
 told_more c uri shown text items places faults i fault none ds d lt is found are told =
     let next = next_at text places faults i none lt found in
     let there = same_diagnostic c uri shown text items (place_of_found fault) next.place d
-    (ap (λ (f : FoundFault). f.code) is ∙ next.is.code) (ap (λ (f : FoundFault). f.start) is ∙ next.is.start) told in
+    (ap (λ (f : FoundFault). f.code) is ∙ next.is.code)
+    (ap (λ (f : FoundFault). f.start) is ∙ next.is.start) told in
     subst (λ l. AreDiagnostics c uri shown text items l (ds ++ d ∷ [])) (sym next.more)
     (diagnostics_more c uri shown text items (take i places) ds next.place d are there)

@@ -50,7 +50,8 @@ all_more (body ∷ bodies) bytes rest more are =
     (are.0 ++ more, framed_more bytes body are.0 more are.1, all_more bodies are.0 rest more are.2)
 
 -- and so a request is cancelled whatever follows
-pub cancelled_more : (id : Data) (bytes more : List ℕ) → IsCancelledIn id bytes → IsCancelledIn id (bytes ++ more)
+pub cancelled_more : (id : Data) (bytes more : List ℕ) → IsCancelledIn id bytes
+    → IsCancelledIn id (bytes ++ more)
 cancelled_more id bytes more c = record {
   before = c.before;
   next = c.next ++ more;

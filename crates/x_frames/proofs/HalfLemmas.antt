@@ -1,5 +1,6 @@
 -- A text of JSON in which halves of pairs of surrogates are mended, byte by byte.
-use Rattle.std.proofs.Common.{◌≡◌, ◌∙◌, ℕ, ◌+◌, ◌<◌, ◌≤◌, ◌++◌, List, [], ◌∷◌, ap, append-nil, append_assoc, arith, suc}
+use Rattle.std.proofs.Common.{◌≡◌, ◌∙◌, ℕ, ◌+◌, ◌<◌, ◌≤◌, ◌++◌, List, [], ◌∷◌, ap, append-nil, append_assoc}
+use Rattle.std.proofs.Common.{arith, suc}
 use Rattle.std.proofs.Common.{drop, drop-cons, get_or, get_or-drop, length, sym}
 use Rattle.std.proofs.lemmas.List.{drop_all}
 use Rattle.x_frames.specs.Halves.{behind, mended_from, put}

@@ -1,9 +1,10 @@
 -- Answers and lists, as they are written.
-use Rattle.std.proofs.Common.{◌≡◌, ◌-◌, ℕ, true, List, [], ◌∷◌, ◌++◌, length, drop, take, Some, refl, ap, sym, ◌∙◌, append_assoc, arith}
+use Rattle.std.proofs.Common.{◌≡◌, ◌-◌, ℕ, true, List, [], ◌∷◌, ◌++◌, length, take, Some, refl, ap, sym, ◌∙◌}
+use Rattle.std.proofs.Common.{append_assoc, arith}
 use Rattle.std.specs.Prelude.{codes, slice_get}
 use Rattle.std.specs.List.{flat_map}
 use Rattle.std.proofs.lemmas.List.{length-append}
-use Rattle.std.proofs.Math.Seq.{drop-append_seam, take-append_seam}
+use Rattle.std.proofs.Math.Seq.{take-append_seam}
 use Rattle.serde_json.specs.Data.{Data, array}
 use Rattle.serde_json.specs.View.{items_of}
 use Rattle.serde_json.specs.Written.{compact_text, items_text}
@@ -14,13 +15,15 @@ use Rattle.x_frames.specs.ListTexts.{ended, entry_text, open_list, without_comma
 -- ---- parts of a text, behind one another
 
 pub five : (a b c d e : List ℕ) → a ++ b ++ c ++ d ++ e ≡ a ++ (b ++ (c ++ (d ++ e)))
-five a b c d e = append_assoc (a ++ b ++ c) d e ∙ append_assoc (a ++ b) c (d ++ e) ∙ append_assoc a b (c ++ (d ++ e))
+five a b c d e = append_assoc (a ++ b ++ c) d e ∙ append_assoc (a ++ b) c (d ++ e)
+    ∙ append_assoc a b (c ++ (d ++ e))
 
 pub six : (a b c d e f : List ℕ) → a ++ b ++ c ++ d ++ e ++ f ≡ a ++ (b ++ (c ++ (d ++ (e ++ f))))
 six a b c d e f = append_assoc (a ++ b ++ c ++ d) e f ∙ five a b c d (e ++ f)
 
 pub eleven : (a b c d e f g h m n o : List ℕ)
-    → a ++ b ++ c ++ d ++ e ++ f ++ g ++ h ++ m ++ n ++ o ≡ a ++ (b ++ (c ++ (d ++ (e ++ (f ++ (g ++ (h ++ (m ++ (n ++ o)))))))))
+    → a ++ b ++ c ++ d ++ e ++ f ++ g ++ h ++ m ++ n ++ o ≡ a
+    ++ (b ++ (c ++ (d ++ (e ++ (f ++ (g ++ (h ++ (m ++ (n ++ o)))))))))
 eleven a b c d e f g h m n o =
     append_assoc (a ++ b ++ c ++ d ++ e ++ f ++ g ++ h ++ m) n o
     ∙ append_assoc (a ++ b ++ c ++ d ++ e ++ f ++ g ++ h) m (n ++ o)
@@ -30,9 +33,11 @@ eleven a b c d e f g h m n o =
     ∙ six a b c d e (f ++ (g ++ (h ++ (m ++ (n ++ o)))))
 
 -- the text of an answer is that of its data
-pub answer_text_is : (id result : Data) → compact_text (answer_data id result) ≡ answer_text (compact_text id) (compact_text result)
+pub answer_text_is : (id result : Data) → compact_text (answer_data id result) ≡ answer_text
+    (compact_text id) (compact_text result)
 unfolding serde_json_on_literals
-answer_text_is id result = sym (five (codes "{\"id\":") (compact_text id) (codes ",\"jsonrpc\":\"2.0\",\"result\":") (compact_text result) (codes "}"))
+answer_text_is id result = sym (five (codes "{\"id\":") (compact_text id)
+    (codes ",\"jsonrpc\":\"2.0\",\"result\":") (compact_text result) (codes "}"))
 
 -- ---- lists
 
@@ -51,14 +56,15 @@ front_comma (d ∷ ds) =
 front_end : (ds : List Data) → items_text true (items_of ds) ≡ front_of ds ++ 93 ∷ []
 front_end [] = refl
 front_end (d ∷ ds) =
-    ap (λ l. 44 ∷ l) (ap (λ l. compact_text d ++ l) (front_end ds) ∙ sym (append_assoc (compact_text d) (front_of ds) (93 ∷ [])))
+    ap (λ l. 44 ∷ l) (ap (λ l. compact_text d ++ l) (front_end ds)
+    ∙ sym (append_assoc (compact_text d) (front_of ds) (93 ∷ [])))
 
-last_there : (xs : List ℕ) (b : ℕ) → slice_get (xs ++ b ∷ []) (length xs) ≡ Some b
+pub last_there : (xs : List ℕ) (b : ℕ) → slice_get (xs ++ b ∷ []) (length xs) ≡ Some b
 last_there [] b = refl
 last_there (x ∷ xs) b = last_there xs b
 
 -- a closing bracket in place of a comma
-comma_ended : (xs : List ℕ) → ended (xs ++ 44 ∷ []) ≡ xs ++ 93 ∷ []
+pub comma_ended : (xs : List ℕ) → ended (xs ++ 44 ∷ []) ≡ xs ++ 93 ∷ []
 comma_ended xs =
     let len = length-append xs (44 ∷ []) in
     let last_is : length (xs ++ 44 ∷ []) - 1 ≡ length xs = omega (arith, len) in
@@ -78,24 +84,5 @@ list_ended (d ∷ ds) =
     ∙ ap (λ l. compact_text d ++ l) (front_comma ds)
     ∙ sym (append_assoc (compact_text d) (front_of ds) (44 ∷ []))) in
     ap ended whole ∙ comma_ended front
-    ∙ ap (λ l. 91 ∷ l) (append_assoc (compact_text d) (front_of ds) (93 ∷ []) ∙ ap (λ l. compact_text d ++ l) (sym (front_end ds)))
-
--- ---- what stands in front of a result was put behind it
-
-turned : (found front : List ℕ) (n : ℕ) → n ≡ length found
-    → drop n (found ++ front) ++ take n (found ++ front) ≡ front ++ found
-turned found front n is =
-    ap (λ k. drop k (found ++ front) ++ take k (found ++ front)) is
-    ∙ (λ i. drop-append_seam found front i ++ take-append_seam found front i)
-
-pub answered : (id found one two three turned_text all : List ℕ) (n : ℕ) → n ≡ length found
-    → one ≡ found ++ codes "{\"id\":" → two ≡ one ++ id
-    → three ≡ two ++ codes ",\"jsonrpc\":\"2.0\",\"result\":"
-    → turned_text ≡ drop n three ++ take n three → all ≡ turned_text ++ codes "}" → all ≡ answer_text id found
-answered id found one two three turned_text all n is first second third turn last =
-    let front = codes "{\"id\":" ++ id ++ codes ",\"jsonrpc\":\"2.0\",\"result\":" in
-    let behind : three ≡ found ++ front =
-    third ∙ ap (λ l. l ++ codes ",\"jsonrpc\":\"2.0\",\"result\":") (second ∙ ap (λ l. l ++ id) first)
-    ∙ ap (λ l. l ++ codes ",\"jsonrpc\":\"2.0\",\"result\":") (append_assoc found (codes "{\"id\":") id)
-    ∙ append_assoc found (codes "{\"id\":" ++ id) (codes ",\"jsonrpc\":\"2.0\",\"result\":") in
-    last ∙ ap (λ l. l ++ codes "}") (turn ∙ ap (λ l. drop n l ++ take n l) behind ∙ turned found front n is)
+    ∙ ap (λ l. 91 ∷ l) (append_assoc (compact_text d) (front_of ds) (93 ∷ [])
+    ∙ ap (λ l. compact_text d ++ l) (sym (front_end ds)))

@@ -62,10 +62,13 @@ abbrev pub answer_data : Data → Data → Data
 answer_data id result =
     object (member (codes "id") id (version_member (member (codes "result") result no_members)))
 
--- the text of that answer, by the texts of the id and of the result
+-- the text of that answer, by the texts of the id and of the result: what stands in front of the result, the
+-- result, and a closing brace
+abbrev pub answer_front : (id : List ℕ) → List ℕ
+answer_front id = codes "{\"id\":" ++ id ++ codes ",\"jsonrpc\":\"2.0\",\"result\":"
+
 abbrev pub answer_text : (id result : List ℕ) → List ℕ
-answer_text id result =
-    codes "{\"id\":" ++ id ++ codes ",\"jsonrpc\":\"2.0\",\"result\":" ++ result ++ codes "}"
+answer_text id result = answer_front id ++ result ++ codes "}"
 
 -- it is the text of a value
 abbrev pub IsText : List ℕ → Type 0

@@ -3,7 +3,7 @@
 ghost use Rattle.std.specs.Prelude.{◌≡◌, false, true, IfErr, IfOk, string_bytes};
 ghost use Rattle.serde_json.specs.View.{view};
 ghost use Rattle.serde_json.specs.Written.{compact_text, has_float};
-ghost use Rattle.x_frames.specs.Answers.{answer_text, error_name, error_number, error_text, note_data};
+ghost use Rattle.x_frames.specs.Answers.{answer_front, error_name, error_number, error_text, note_data};
 ghost use Rattle.x_frames.specs.Answers.{IsText, refusal_data, shown_data};
 ghost use Rattle.x_frames.specs.Lives.{is_of_question};
 
@@ -120,20 +120,17 @@ pub fn result_text(alloc: Global, found: &Value) -> Result<Vec<u8>, ErrorCode>
     }
 }
 
-/// The answer to the request with this id, whose result has this text.
-pub fn answer(alloc: Global, id: &Value, mut found: Vec<u8>) -> Result<Vec<u8>, AllocError>
+/// What stands in front of the result in the answer to the request with this id. Behind the result comes a
+/// closing brace.
+pub fn answer_front(alloc: Global, id: &Value) -> Result<Vec<u8>, AllocError>
     requires { has_float (view id.now) ≡ false }
-    ensures { IfOk result (λ text. text.items ≡ answer_text (compact_text (view id.now)) found.items) }
+    ensures { IfOk result (λ front. front.items ≡ answer_front (compact_text (view id.now))) }
 {
     let id = id.to_vec(alloc)?;
-    let count = found.len();
-    found.extend_from_slice(b"{\"id\":")?;
-    found.extend_from_slice(&id)?;
-    found.extend_from_slice(b",\"jsonrpc\":\"2.0\",\"result\":")?;
-    // What stands in front of the result was put behind it: so a long result is not copied to another place.
-    found.rotate_left(count);
-    found.push(b'}')?;
-    Ok(found)
+    let mut front = Vec::from_slice(alloc, b"{\"id\":")?;
+    front.extend_from_slice(&id)?;
+    front.extend_from_slice(b",\"jsonrpc\":\"2.0\",\"result\":")?;
+    Ok(front)
 }
 
 /// The answer that refuses the request with this id.

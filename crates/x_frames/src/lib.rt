@@ -18,7 +18,7 @@ mod params;
 mod plain_list;
 mod plain_object;
 
-pub use answers::{ErrorCode, answer, note, refusal, result_text, shown_text};
+pub use answers::{ErrorCode, answer_front, note, refusal, result_text, shown_text};
 pub use cancelling::is_cancelled;
 pub use capabilities::capabilities_of;
 pub use changes::TextChange;

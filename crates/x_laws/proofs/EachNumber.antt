@@ -167,7 +167,7 @@ each_array definitions results are fine item d there word v has =
 
 -- ---- enumerators
 
-told_at : (gs : List Gloss) (at : ℕ) (es : List EnumeratorAt) (e : EnumeratorAt) → AllTold gs at es
+pub told_at : (gs : List Gloss) (at : ℕ) (es : List EnumeratorAt) (e : EnumeratorAt) → AllTold gs at es
     → IsAmong es e → IsTold gs at e
 told_at gs at [] e all among = absurd (among_none e among)
 told_at gs at (x ∷ xs) e all among = by (among_cases x e xs among) (λ rest. told_at gs at xs e all.1 rest)

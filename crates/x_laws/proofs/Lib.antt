@@ -3,6 +3,8 @@ pub mod AlikeProcedures
 pub mod AlikeSchemas
 pub mod AlikeValues
 pub mod BodyNames
+pub mod CaseWords
+pub mod ClassFits
 pub mod EachNumber
 pub mod EachProcedure
 pub mod EnumNumbers
@@ -30,4 +32,5 @@ pub mod SchemaTypes
 pub mod TypeMeanings
 pub mod TypeTables
 pub mod TypeWords
+pub mod TypedefWords
 pub mod UsedNumbers

@@ -1,11 +1,19 @@
 -- No word of a definition declares a name as a typedef but that of a typedef.
-use Rattle.std.proofs.Common.{◌≡◌, ◌⊎◌, inl, inr, ℕ, ◌+◌, Bool, true, false, ◌||◌, List, [], ◌∷◌, ◌++◌, map, length, Option, None, Some, refl, sym, ap, ◌∙◌}
+use Rattle.std.proofs.Common.{◌≡◌, ◌⊎◌, inl, inr, ℕ, ◌+◌, Bool, true, false, ◌||◌, List, [], ◌∷◌, ◌++◌, map}
+use Rattle.std.proofs.Common.{length, Option, None, Some, refl, sym, ap, ◌∙◌}
 use Rattle.std.specs.List.{IsAmong}
 use Rattle.x_lex.specs.declared.mark.Mark.{Mark}
 use Rattle.x_lex.specs.declared.mark.Mark.TheVariants.{Semicolon}
 use Rattle.x_trees.specs.Tree as tree
 use Rattle.x_trees.specs.Words.{Fixed}
-use Rattle.x_trees.specs.Gloss.{Position, AsField, AsDiscriminant, AsArm, Site, InTypedef, Inside, Role, Declares, ConstantValue, EnumeratorValue, CaseValue, FixedSize, GreatestSize, VoidResult, VoidArgument, Gloss, glossed, gloss, value_roles, leading_roles, lifted_name, lifted_roles, basic_marks, body_kind, use_by, marks_by, most_by, length_by, named_by, given_by, enumerator_by, other_enumerators_by, enumerators_by, cases_by, type_by, body_by, declaration_by, declarations_by, arms_by, default_by, argument_by, passed_by, others_by, procedure_by, procedures_by, version_by, versions_by, told_of}
+use Rattle.x_trees.specs.Gloss.{Position, AsField, AsDiscriminant, AsArm, Site, InTypedef, Inside, Role}
+use Rattle.x_trees.specs.Gloss.{Declares, ConstantValue, EnumeratorValue, CaseValue, FixedSize, GreatestSize}
+use Rattle.x_trees.specs.Gloss.{VoidResult, VoidArgument, Gloss, glossed, gloss, value_roles, leading_roles}
+use Rattle.x_trees.specs.Gloss.{lifted_name, lifted_roles, basic_marks, body_kind, use_by, marks_by, most_by}
+use Rattle.x_trees.specs.Gloss.{length_by, named_by, given_by, enumerator_by, other_enumerators_by}
+use Rattle.x_trees.specs.Gloss.{enumerators_by, cases_by, type_by, body_by, declaration_by, declarations_by}
+use Rattle.x_trees.specs.Gloss.{arms_by, default_by, argument_by, passed_by, others_by, procedure_by}
+use Rattle.x_trees.specs.Gloss.{procedures_by, version_by, versions_by, told_of}
 use Rattle.x_trees.specs.Names.{Declared, declared, declared_at}
 use Rattle.x_trees.specs.declared.names.declared_name.NameKind.{NameKind}
 use Rattle.x_trees.specs.declared.names.declared_name.NameKind.TheVariants as kinds
@@ -36,7 +44,8 @@ or_assoc false b c = refl
 
 append : (a b : List Gloss) → words_are (a ++ b) ≡ words_are a || words_are b
 append [] b = refl
-append (g ∷ gs) b = ap (λ x. roles_are g.roles || x) (append gs b) ∙ or_assoc (roles_are g.roles) (words_are gs) (words_are b)
+append (g ∷ gs) b = ap (λ x. roles_are g.roles || x) (append gs b)
+    ∙ or_assoc (roles_are g.roles) (words_are gs) (words_are b)
 
 both : (xs ys : List Gloss) → words_are xs ≡ false → words_are ys ≡ false → words_are (xs ++ ys) ≡ false
 both xs ys e k = append xs ys ∙ (λ i. e i || k i)
@@ -57,7 +66,8 @@ size (tree.Fixed v) = ap (λ b. b || false) (value (FixedSize v) v refl)
 size (tree.Variable None) = refl
 size (tree.Variable (Some v)) = ap (λ b. b || false) (value (GreatestSize v) v refl)
 
-named : (roles : List Role) (name : List ℕ) (shape : tree.Shape) → roles_are roles ≡ false → words_are (named_by glossed true roles name shape) ≡ false
+named : (roles : List Role) (name : List ℕ) (shape : tree.Shape) → roles_are roles ≡ false
+    → words_are (named_by glossed true roles name shape) ≡ false
 named roles name tree.Plain e = ap (λ b. b || false) e
 named roles name tree.Optional e = ap (λ b. b || false) e
 named roles name (tree.Array l) e = next roles _ e (size l)
@@ -68,11 +78,13 @@ given (Some v) = ap (λ b. b || false) (value (EnumeratorValue v) v refl)
 
 other_enumerators : (es : List tree.Enumerator) → words_are (other_enumerators_by glossed true es) ≡ false
 other_enumerators [] = refl
-other_enumerators (e ∷ es) = both (enumerator_by glossed true e) (other_enumerators_by glossed true es) (given e.value) (other_enumerators es)
+other_enumerators (e ∷ es) = both (enumerator_by glossed true e) (other_enumerators_by glossed true es)
+    (given e.value) (other_enumerators es)
 
 enumerators : (es : List tree.Enumerator) → words_are (enumerators_by glossed true es) ≡ false
 enumerators [] = refl
-enumerators (e ∷ es) = both (enumerator_by glossed true e) (other_enumerators_by glossed true es) (given e.value) (other_enumerators es)
+enumerators (e ∷ es) = both (enumerator_by glossed true e) (other_enumerators_by glossed true es)
+    (given e.value) (other_enumerators es)
 
 cases : (vs : List tree.Value) → words_are (cases_by glossed true vs) ≡ false
 cases [] = refl
@@ -82,7 +94,8 @@ bare_marks : (ms : List Mark) → words_are (map (λ m. glossed (Fixed m) []) ms
 bare_marks [] = refl
 bare_marks (m ∷ ms) = bare_marks ms
 
-marks : (first : List Role) (ms : List Mark) → roles_are first ≡ false → words_are (marks_by glossed first ms) ≡ false
+marks : (first : List Role) (ms : List Mark) → roles_are first ≡ false
+    → words_are (marks_by glossed first ms) ≡ false
 marks first [] e = refl
 marks first (m ∷ ms) e = next first _ e (bare_marks ms)
 
@@ -112,33 +125,45 @@ mutual
   body around (tree.Struct ds) = both (declarations_by glossed (Some around) ds) _ (fields around ds) refl
   body around (tree.Union d as' other) =
       both (words_inside AsDiscriminant around d) _ (declaration AsDiscriminant around d)
-      (both (arms_by glossed (Some around) as') (default_by glossed (Some around) other) (arms around as') (default around other))
+      (both (arms_by glossed (Some around) as') (default_by glossed (Some around) other) (arms around as')
+      (default around other))
 
-  type : (first : List Role) (u : Use) (lifted : List ℕ) (t : tree.DataType) → roles_are first ≡ false → words_are (type_by glossed first (Some u) (Some lifted) t) ≡ false
+  type : (first : List Role) (u : Use) (lifted : List ℕ) (t : tree.DataType) → roles_are first ≡ false
+      → words_are (type_by glossed first (Some u) (Some lifted) t) ≡ false
   type first u lifted (tree.Simple b) e = marks first (basic_marks b) e
   type first u lifted (tree.Name t) e = ap (λ b. b || false) e
   type first u lifted (tree.Tagged tag t) e = ap (λ b. b || false) e
   type first u lifted (tree.Inline b) e = next first _ e (body lifted b)
 
-  declaration : (position : Position) (around : List ℕ) (d : tree.Declaration) → words_are (words_inside position around d) ≡ false
+  declaration : (position : Position) (around : List ℕ) (d : tree.Declaration)
+      → words_are (words_inside position around d) ≡ false
   declaration position around tree.Void = ap (λ b. b || false) (leading (Inside position around) tree.Void)
   declaration position around (tree.Of t name shape) =
-      both (type_by glossed (leading_roles (Some (Inside position around)) (tree.Of t name shape)) (Some (use_by shape)) (Some (lifted_name around name)) t) _
-      (type (leading_roles (Some (Inside position around)) (tree.Of t name shape)) (use_by shape) (lifted_name around name) t (leading (Inside position around) (tree.Of t name shape)))
+      both (type_by glossed (leading_roles (Some (Inside position around)) (tree.Of t name shape))
+      (Some (use_by shape)) (Some (lifted_name around name)) t) _
+      (type (leading_roles (Some (Inside position around)) (tree.Of t name shape)) (use_by shape)
+      (lifted_name around name) t (leading (Inside position around) (tree.Of t name shape)))
       (named _ name shape (lifted_quiet (lifted_name around name) t))
-  declaration position around (tree.Opaque name l) = next (leading_roles (Some (Inside position around)) (tree.Opaque name l)) _ (leading (Inside position around) (tree.Opaque name l)) (size l)
+  declaration position around (tree.Opaque name l) = next
+      (leading_roles (Some (Inside position around)) (tree.Opaque name l)) _
+      (leading (Inside position around) (tree.Opaque name l)) (size l)
   declaration position around (tree.String name v) =
-      next (leading_roles (Some (Inside position around)) (tree.String name v)) _ (leading (Inside position around) (tree.String name v)) (size (tree.Variable v))
+      next (leading_roles (Some (Inside position around)) (tree.String name v)) _
+      (leading (Inside position around) (tree.String name v)) (size (tree.Variable v))
 
-  fields : (around : List ℕ) (ds : tree.Declarations) → words_are (declarations_by glossed (Some around) ds) ≡ false
+  fields : (around : List ℕ) (ds : tree.Declarations)
+      → words_are (declarations_by glossed (Some around) ds) ≡ false
   fields around tree.none = refl
-  fields around (tree.more d ds) = both (words_inside AsField around d) _ (declaration AsField around d) (fields around ds)
+  fields around (tree.more d ds) = both (words_inside AsField around d) _ (declaration AsField around d)
+      (fields around ds)
 
   arms : (around : List ℕ) (as' : tree.Arms) → words_are (arms_by glossed (Some around) as') ≡ false
   arms around tree.no_arm = refl
-  arms around (tree.arm values d rest) = both (cases_by glossed true values) _ (cases values) (both (words_inside AsArm around d) _ (declaration AsArm around d) (arms around rest))
+  arms around (tree.arm values d rest) = both (cases_by glossed true values) _ (cases values)
+      (both (words_inside AsArm around d) _ (declaration AsArm around d) (arms around rest))
 
-  default : (around : List ℕ) (other : tree.Default) → words_are (default_by glossed (Some around) other) ≡ false
+  default : (around : List ℕ) (other : tree.Default)
+      → words_are (default_by glossed (Some around) other) ≡ false
   default around tree.no_default = refl
   default around (tree.default d) = both (words_inside AsArm around d) _ (declaration AsArm around d) refl
 
@@ -153,7 +178,8 @@ argument (tree.Typed (tree.Name t)) = refl
 argument (tree.Typed (tree.Tagged tag t)) = refl
 argument (tree.Typed (tree.Inline b)) = bare (body_by glossed None b) (bare_body b)
 
-passed : (void : List Role) (a : Option tree.Argument) → roles_are void ≡ false → words_are (passed_by glossed true void a) ≡ false
+passed : (void : List Role) (a : Option tree.Argument) → roles_are void ≡ false
+    → words_are (passed_by glossed true void a) ≡ false
 passed void None e = ap (λ b. b || false) e
 passed void (Some a) e = argument a
 
@@ -164,12 +190,16 @@ others (a ∷ rest) = both (argument_by glossed true a) (others_by glossed true 
 procedure : (p : tree.Procedure) → words_are (procedure_by glossed true p) ≡ false
 procedure p =
     both (passed_by glossed true (VoidResult ∷ []) p.result) _ (passed (VoidResult ∷ []) p.result refl)
-    (both (passed_by glossed true (VoidArgument (length p.others) ∷ []) p.first ++ others_by glossed true p.others) _
-    (both (passed_by glossed true (VoidArgument (length p.others) ∷ []) p.first) (others_by glossed true p.others) (passed (VoidArgument (length p.others) ∷ []) p.first refl) (others p.others)) refl)
+    (both (passed_by glossed true (VoidArgument (length p.others) ∷ []) p.first
+    ++ others_by glossed true p.others) _
+    (both (passed_by glossed true (VoidArgument (length p.others) ∷ []) p.first)
+    (others_by glossed true p.others) (passed (VoidArgument (length p.others) ∷ []) p.first refl)
+    (others p.others)) refl)
 
 procedures : (ps : List tree.Procedure) → words_are (procedures_by glossed true ps) ≡ false
 procedures [] = refl
-procedures (p ∷ ps) = both (procedure_by glossed true p) (procedures_by glossed true ps) (procedure p) (procedures ps)
+procedures (p ∷ ps) = both (procedure_by glossed true p) (procedures_by glossed true ps) (procedure p)
+    (procedures ps)
 
 version : (v : tree.Version) → words_are (version_by glossed true v) ≡ false
 version v = both (procedures_by glossed true v.procedures) _ (procedures v.procedures) refl
@@ -182,9 +212,11 @@ const_quiet : (name : List ℕ) (v : tree.Value) → words_are (gloss (tree.Cons
 const_quiet name v = ap (λ b. b || false) (value (ConstantValue v) v refl)
 
 new_quiet : (name : List ℕ) (b : tree.Body) → words_are (gloss (tree.NewType name b)) ≡ false
-new_quiet name b = next (Declares name (body_kind b) false ∷ []) _ (ap (λ x. x || false) (body_no_typedef b)) (both (body_by glossed (Some name) b) (glossed (Fixed Semicolon) [] ∷ []) (body name b) refl)
+new_quiet name b = next (Declares name (body_kind b) false ∷ []) _ (ap (λ x. x || false) (body_no_typedef b))
+    (both (body_by glossed (Some name) b) (glossed (Fixed Semicolon) [] ∷ []) (body name b) refl)
 
-program_quiet : (name : List ℕ) (vs : List tree.Version) (number : List ℕ) → words_are (gloss (tree.Program name vs number)) ≡ false
+program_quiet : (name : List ℕ) (vs : List tree.Version) (number : List ℕ)
+    → words_are (gloss (tree.Program name vs number)) ≡ false
 program_quiet name vs number = both (versions_by glossed true vs) _ (versions vs) refl
 
 -- ---- a name that is declared as a typedef
@@ -193,22 +225,29 @@ or_true : (a : Bool) → a || true ≡ true
 or_true true = refl
 or_true false = refl
 
-roles_declare : (at : ℕ) (roles : List Role) (x : Declared) → IsAmong (declared_at at roles) x → is_typedef x.kind ≡ true → roles_are roles ≡ true
+roles_declare : (at : ℕ) (roles : List Role) (x : Declared) → IsAmong (declared_at at roles) x
+    → is_typedef x.kind ≡ true → roles_are roles ≡ true
 roles_declare at [] x h e = absurd (among_none x h)
 roles_declare at (Declares name kind lifted ∷ roles) x h e =
-    by (among_cases (record { name = name; word = at; kind = kind; lifted = lifted }) x (declared_at at roles) h) (λ k. roles_declare at roles x k e)
+    by (among_cases (record { name = name; word = at; kind = kind; lifted = lifted }) x
+    (declared_at at roles) h) (λ k. roles_declare at roles x k e)
   where
-    by : (x ≡ record { name = name; word = at; kind = kind; lifted = lifted }) ⊎ IsAmong (declared_at at roles) x → (IsAmong (declared_at at roles) x → roles_are roles ≡ true)
+    by : (x ≡ record { name = name; word = at; kind = kind; lifted = lifted })
+        ⊎ IsAmong (declared_at at roles) x → (IsAmong (declared_at at roles) x → roles_are roles ≡ true)
         → is_typedef kind || roles_are roles ≡ true
     by (inl same) more = ap (λ b. b || roles_are roles) (sym (ap (λ y. is_typedef y.kind) same) ∙ e)
     by (inr k) more = ap (λ b. is_typedef kind || b) (more k) ∙ or_true (is_typedef kind)
 roles_declare at (role ∷ roles) x h e = roles_declare at roles x h e
 
-words_declare : (at : ℕ) (gs : List Gloss) (x : Declared) → IsAmong (told_of declared_at at gs) x → is_typedef x.kind ≡ true → words_are gs ≡ true
+words_declare : (at : ℕ) (gs : List Gloss) (x : Declared) → IsAmong (told_of declared_at at gs) x
+    → is_typedef x.kind ≡ true → words_are gs ≡ true
 words_declare at [] x h e = absurd (among_none x h)
-words_declare at (g ∷ gs) x h e = by (among_parts (declared_at at g.roles) (told_of declared_at (at + 1) gs) x h) (λ k. words_declare (at + 1) gs x k e)
+words_declare at (g ∷ gs) x h e = by (among_parts (declared_at at g.roles)
+    (told_of declared_at (at + 1) gs) x h) (λ k. words_declare (at + 1) gs x k e)
   where
-    by : IsAmong (declared_at at g.roles) x ⊎ IsAmong (told_of declared_at (at + 1) gs) x → (IsAmong (told_of declared_at (at + 1) gs) x → words_are gs ≡ true) → roles_are g.roles || words_are gs ≡ true
+    by : IsAmong (declared_at at g.roles) x ⊎ IsAmong (told_of declared_at (at + 1) gs) x
+        → (IsAmong (told_of declared_at (at + 1) gs) x → words_are gs ≡ true)
+        → roles_are g.roles || words_are gs ≡ true
     by (inl k) more = ap (λ b. b || words_are gs) (roles_declare at g.roles x k e)
     by (inr k) more = ap (λ b. roles_are g.roles || b) (more k) ∙ or_true (roles_are g.roles)
 
@@ -216,8 +255,13 @@ words_declare at (g ∷ gs) x h e = by (among_parts (declared_at at g.roles) (to
 pub data IsTypedef (d : tree.Definition) : Type 0 where
   typedef : (declaration : tree.Declaration) → d ≡ tree.Typedef declaration → IsTypedef d
 
-pub typedef_of : (d : tree.Definition) (x : Declared) → IsAmong (declared d) x → x.kind ≡ kinds.Typedef → IsTypedef d
-typedef_of (tree.Const name v) x h e = let is = words_declare 0 (gloss (tree.Const name v)) x h (ap is_typedef e) in let quiet = const_quiet name v in absurd cc
+pub typedef_of : (d : tree.Definition) (x : Declared) → IsAmong (declared d) x → x.kind ≡ kinds.Typedef
+    → IsTypedef d
+typedef_of (tree.Const name v) x h e = let is = words_declare 0 (gloss (tree.Const name v)) x h
+    (ap is_typedef e) in let quiet = const_quiet name v in absurd cc
 typedef_of (tree.Typedef d) x h e = typedef d refl
-typedef_of (tree.NewType name b) x h e = let is = words_declare 0 (gloss (tree.NewType name b)) x h (ap is_typedef e) in let quiet = new_quiet name b in absurd cc
-typedef_of (tree.Program name vs number) x h e = let is = words_declare 0 (gloss (tree.Program name vs number)) x h (ap is_typedef e) in let quiet = program_quiet name vs number in absurd cc
+typedef_of (tree.NewType name b) x h e = let is = words_declare 0 (gloss (tree.NewType name b)) x h
+    (ap is_typedef e) in let quiet = new_quiet name b in absurd cc
+typedef_of (tree.Program name vs number) x h e = let is = words_declare 0
+    (gloss (tree.Program name vs number)) x h
+    (ap is_typedef e) in let quiet = program_quiet name vs number in absurd cc

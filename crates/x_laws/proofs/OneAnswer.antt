@@ -28,7 +28,8 @@ use Rattle.x_compile.specs.Known.{KnownText, known_names}
 use Rattle.x_session.specs.Typed.{all_definitions}
 use Rattle.x_script.specs.Explaining.{IsExplainAnswer, explained_answer, telling_of}
 use Rattle.x_script.specs.LineAnswers as answers
-use Rattle.x_script.specs.LineAnswers.{IsCommandAnswer, IsDumped, IsLineAnswer, IsShownBy, alone, asks, clashes}
+use Rattle.x_script.specs.LineAnswers.{IsCommandAnswer, IsDumped, IsLineAnswer, IsShownBy, alone, asks}
+use Rattle.x_script.specs.LineAnswers.{clashes}
 use Rattle.x_script.specs.LineAnswers.{explains, hidden, leads, read, shows, stands, too_long, within}
 use Rattle.x_script.specs.Refusals.{unknown_line}
 use Rattle.x_script.specs.Situations.{How, Over}
@@ -132,7 +133,8 @@ one_clash how text items a b (clashing.faulty p e) (clashing.faultless ws none a
 one_clash how text items a b (clashing.faultless ws none are e) (clashing.faulty q f) =
     absurd (none_left (faults_of text items) q none)
 one_clash how text items a b (clashing.faultless ws none are e) (clashing.faultless others none' are' f) =
-    e ∙ ap (λ l. answered text (clashes_answer how.file l)) (one_warnings text items ws others are are') ∙ sym f
+    e ∙ ap (λ l. answered text (clashes_answer how.file l)) (one_warnings text items ws others are are')
+    ∙ sym f
 
 -- it asks for nothing else
 clashes_no_value : (line : List ℕ) → clashes_asked line ≡ true → dump_asked line ≡ None
@@ -219,7 +221,8 @@ one_use_by known from text items name x y (declared a at is led are e) (declared
     ∙ sym f
 
 one_use : (files : List ℕ) (from : FromC) (text : List ℕ) (items : List Item) (name : List ℕ)
-    (x y : Option Spot) → IsForeignUse files from text items name x → IsForeignUse files from text items name y
+    (x y : Option Spot) → IsForeignUse files from text items name x
+    → IsForeignUse files from text items name y
     → x ≡ y
 one_use files from text items name x y h k =
     let same = same_names h.0 k.0 (one_known files h.0 k.0 h.1 k.1) in
@@ -241,8 +244,10 @@ one_shown how a b text items name message x y s (answers.faulty p e) (stands non
 one_shown how a b text items name message x y s (leads spot none t e) (answers.faulty q f) =
     absurd (none_left (faults_of text items) q none)
 one_shown how a b text items name message x y s (leads spot none t e) (leads spot' none' u f) =
-    let same : Some spot ≡ Some spot' = one_use how.files how.from text items name (Some spot) (Some spot') t u in
-    e ∙ ap (λ (at : Spot). refused text (unknown_line at)) (same_some (Some spot) spot spot' refl same) ∙ sym f
+    let same : Some spot ≡ Some spot' = one_use how.files how.from text items name (Some spot)
+    (Some spot') t u in
+    e ∙ ap (λ (at : Spot). refused text (unknown_line at)) (same_some (Some spot) spot spot' refl same)
+    ∙ sym f
 one_shown how a b text items name message x y s (leads spot none t e) (stands none' u f) =
     absurd (no_spot (Some spot) spot (one_use how.files how.from text items name (Some spot) None t u) refl)
 one_shown how a b text items name message x y s (stands none t e) (answers.faulty q f) =

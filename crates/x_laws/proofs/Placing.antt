@@ -1,5 +1,7 @@
 -- Nodes have one list of places, and the bodies that they show are the slices of the message there.
-use Rattle.std.proofs.Common.{◌≡◌, ℕ, zero, suc, ◌+◌, Bool, true, false, List, [], ◌∷◌, ◌++◌, map, length, take, drop, All, Option, None, Some, refl, sym, ap, subst, ◌∙◌, append_assoc, append-nil, arith}
+use Rattle.std.proofs.Common.{◌≡◌, ℕ, zero, suc, ◌+◌, Bool, true, false, List, [], ◌∷◌, ◌++◌, map, length}
+use Rattle.std.proofs.Common.{take, drop, All, Option, None, Some, refl, sym, ap, subst, ◌∙◌, append_assoc}
+use Rattle.std.proofs.Common.{append-nil, arith}
 use Rattle.std.specs.Prelude.{nat_eq, if◌then◌else◌}
 use Rattle.std.proofs.lemmas.List.{length-append, map-append, take_at, drop_at}
 use Rattle.std.proofs.lemmas.Option.{same_Some}
@@ -13,13 +15,17 @@ use Rattle.x_schema.specs.declared.form.Form.{Form}
 use Rattle.x_schema.specs.declared.form.Form.TheVariants as forms
 use Rattle.x_schema.specs.declared.schema.TypeId.{TypeId}
 use Rattle.x_value.specs.Dumps.{root_job, IsShown}
-use Rattle.x_value.specs.Layouts.{Layout, Fixed, Fields, Elements, Flag, Named, Sized, Counted, Optional, Chosen, Spot, Job, job, layout_of, layout_at, field_jobs, element_jobs, arm_jobs, members, behind, discriminant_leaf, body_nodes, group_nodes, head_nodes}
+use Rattle.x_value.specs.Layouts.{Layout, Fixed, Fields, Elements, Flag, Named, Sized, Counted, Optional}
+use Rattle.x_value.specs.Layouts.{Chosen, Spot, Job, job, layout_of, layout_at, field_jobs, element_jobs}
+use Rattle.x_value.specs.Layouts.{arm_jobs, members, behind, discriminant_leaf, body_nodes, group_nodes}
+use Rattle.x_value.specs.Layouts.{head_nodes}
 use Rattle.x_value.specs.Readings.{nodes, nodes_each}
 use Rattle.x_value.specs.Shown.{Leaf, Null, Link, Star, Node}
 use Rattle.x_value.specs.Values.{Value, Values, body, group, headed, end, more, enc, encs}
 use Rattle.x_value.proofs.Bytes.{word_length}
 use Rattle.x_value.proofs.Unique.{one_value}
-use Rattle.x_laws.specs.Places.{PlacedNode, at_place, placed_nodes, placed_each, IsShownAt, body_shown, ShowsSlice}
+use Rattle.x_laws.specs.Places.{PlacedNode, at_place, placed_nodes, placed_each, IsShownAt, body_shown}
+use Rattle.x_laws.specs.Places.{ShowsSlice}
 
 -- ---- the nodes themselves
 
@@ -30,26 +36,32 @@ without_place : (at : ℕ) (ns : List Node) → map node_in (map (at_place at) n
 without_place at [] = refl
 without_place at (n ∷ ns) = ap (λ l. n ∷ l) (without_place at ns)
 
-parts_without : (at : ℕ) (ns : List Node) (placed : List PlacedNode) (ms : List Node) → map node_in placed ≡ ms → map node_in (map (at_place at) ns ++ placed) ≡ ns ++ ms
+parts_without : (at : ℕ) (ns : List Node) (placed : List PlacedNode) (ms : List Node)
+    → map node_in placed ≡ ms → map node_in (map (at_place at) ns ++ placed) ≡ ns ++ ms
 parts_without at ns placed ms e =
     let first = without_place at ns in
     map-append node_in (map (at_place at) ns) placed ∙ (λ i. first i ++ e i)
 
 mutual
-  same_nodes : (s : Schema) (l : Layout) (p : Spot) (v : Value) (at : ℕ) → map node_in (placed_nodes s l p v at) ≡ nodes s l p v
+  same_nodes : (s : Schema) (l : Layout) (p : Spot) (v : Value) (at : ℕ)
+      → map node_in (placed_nodes s l p v at) ≡ nodes s l p v
   same_nodes s l p (body bs) at = without_place at (body_nodes l p bs)
   same_nodes s l p (group vs) at =
-      parts_without at (group_nodes l p) (placed_each s (members s l p) vs at) (nodes_each s (members s l p) vs) (same_nodes_each s (members s l p) vs at)
+      parts_without at (group_nodes l p) (placed_each s (members s l p) vs at)
+      (nodes_each s (members s l p) vs) (same_nodes_each s (members s l p) vs at)
   same_nodes s l p (headed w vs) at =
-      parts_without at (head_nodes s l p w) (placed_each s (behind s l p w) vs (at + 4)) (nodes_each s (behind s l p w) vs) (same_nodes_each s (behind s l p w) vs (at + 4))
+      parts_without at (head_nodes s l p w) (placed_each s (behind s l p w) vs (at + 4))
+      (nodes_each s (behind s l p w) vs) (same_nodes_each s (behind s l p w) vs (at + 4))
 
-  same_nodes_each : (s : Schema) (js : List Job) (vs : Values) (at : ℕ) → map node_in (placed_each s js vs at) ≡ nodes_each s js vs
+  same_nodes_each : (s : Schema) (js : List Job) (vs : Values) (at : ℕ)
+      → map node_in (placed_each s js vs at) ≡ nodes_each s js vs
   same_nodes_each s [] vs at = refl
   same_nodes_each s (j ∷ js) end at = refl
   same_nodes_each s (j ∷ js) (more v vs) at =
       let first = same_nodes s j.layout j.spot v at in
       let rest = same_nodes_each s js vs (at + length (enc v)) in
-      map-append node_in (placed_nodes s j.layout j.spot v at) (placed_each s js vs (at + length (enc v))) ∙ (λ i. first i ++ rest i)
+      map-append node_in (placed_nodes s j.layout j.spot v at) (placed_each s js vs (at + length (enc v)))
+      ∙ (λ i. first i ++ rest i)
 
 -- ---- what shows bytes shows those of the body
 
@@ -103,7 +115,8 @@ of_members s (Fields fs) p = of_fields s (suc p.level) p.links fs
 of_members s (Elements of n) p = of_elements s of (suc p.level) p.links 0 n
 of_members s _ p = tt
 
-of_link : (s : Schema) (of level links : ℕ) (b : Bool) → AreFaithful (if b then [] else (job (layout_at s of) Star level links ∷ []))
+of_link : (s : Schema) (of level links : ℕ) (b : Bool)
+    → AreFaithful (if b then [] else (job (layout_at s of) Star level links ∷ []))
 of_link s of level links true = tt
 of_link s of level links false = (of_form s (form_at s of), tt)
 
@@ -149,7 +162,8 @@ abbrev ShowSlices : List ℕ → List PlacedNode → Type 0
 ShowSlices m [] = Unit {0}
 ShowSlices m (n ∷ ns) = ShowsSlice m n × ShowSlices m ns
 
-slices_behind : (m : List ℕ) (xs ys : List PlacedNode) → ShowSlices m xs → ShowSlices m ys → ShowSlices m (xs ++ ys)
+slices_behind : (m : List ℕ) (xs ys : List PlacedNode) → ShowSlices m xs → ShowSlices m ys
+    → ShowSlices m (xs ++ ys)
 slices_behind m [] ys h k = k
 slices_behind m (x ∷ xs) ys h k = (h.0, slices_behind m xs ys h.1 k)
 
@@ -157,35 +171,43 @@ slices_of_none : (m : List ℕ) (at : ℕ) (ns : List Node) → ShowNone ns → 
 slices_of_none m at [] h = tt
 slices_of_none m at (n ∷ ns) h = let none = h.0 in ((λ bytes e. absurd cc), slices_of_none m at ns h.1)
 
-slice_between : (before bs rear : List ℕ) → bs ≡ take (length bs) (drop (length before) (before ++ (bs ++ rear)))
-slice_between before bs rear = sym (ap (λ t. take (length bs) t) (drop_at before (bs ++ rear) (length before) refl) ∙ take_at bs rear (length bs) refl)
+slice_between : (before bs rear : List ℕ) → bs ≡ take (length bs)
+    (drop (length before) (before ++ (bs ++ rear)))
+slice_between before bs rear = sym (ap (λ t. take (length bs) t)
+    (drop_at before (bs ++ rear) (length before) refl) ∙ take_at bs rear (length bs) refl)
 
-slices_of_body : (l : Layout) (p : Spot) (m before bs rear : List ℕ) (at : ℕ) → IsFaithful l → m ≡ before ++ (bs ++ rear) → at ≡ length before
+slices_of_body : (l : Layout) (p : Spot) (m before bs rear : List ℕ) (at : ℕ) → IsFaithful l → m ≡ before
+    ++ (bs ++ rear) → at ≡ length before
     → ShowSlices m (map (at_place at) (body_nodes l p bs))
 slices_of_body (Fixed leaf n) p m before bs rear at h e place = ((λ bytes is. by bytes (h bs bytes is)), tt)
   where
     there : bs ≡ take (length bs) (drop at m)
-    there = let from = sym place in let whole = sym e in slice_between before bs rear ∙ (λ i. take (length bs) (drop (from i) (whole i)))
+    there = let from = sym place in let whole = sym e in slice_between before bs rear
+        ∙ (λ i. take (length bs) (drop (from i) (whole i)))
 
     by : (bytes : List ℕ) → bytes ≡ bs → bytes ≡ take (length bytes) (drop at m)
     by bytes same = subst (λ x. x ≡ take (length x) (drop at m)) (sym same) there
 slices_of_body _ p m before bs rear at h e place = tt
 
 -- the message with its parts put together in another way
-behind_first : (m before a b rear : List ℕ) → m ≡ before ++ ((a ++ b) ++ rear) → m ≡ before ++ (a ++ (b ++ rear))
+behind_first : (m before a b rear : List ℕ) → m ≡ before ++ ((a ++ b) ++ rear) → m ≡ before
+    ++ (a ++ (b ++ rear))
 behind_first m before a b rear e = e ∙ ap (λ t. before ++ t) (append_assoc a b rear)
 
-behind_more : (m before a b rear : List ℕ) → m ≡ before ++ ((a ++ b) ++ rear) → m ≡ (before ++ a) ++ (b ++ rear)
+behind_more : (m before a b rear : List ℕ) → m ≡ before ++ ((a ++ b) ++ rear) → m ≡ (before ++ a)
+    ++ (b ++ rear)
 behind_more m before a b rear e = behind_first m before a b rear e ∙ sym (append_assoc before a (b ++ rear))
 
 longer : (before a : List ℕ) (at n : ℕ) → at ≡ length before → length a ≡ n → at + n ≡ length (before ++ a)
 longer before a at n place long = let l = sym long in (λ i. place i + l i) ∙ sym (length-append before a)
 
 mutual
-  slices_of : (s : Schema) (l : Layout) (p : Spot) (v : Value) (m before rear : List ℕ) (at : ℕ) → IsFaithful l → m ≡ before ++ (enc v ++ rear) → at ≡ length before
+  slices_of : (s : Schema) (l : Layout) (p : Spot) (v : Value) (m before rear : List ℕ) (at : ℕ)
+      → IsFaithful l → m ≡ before ++ (enc v ++ rear) → at ≡ length before
       → ShowSlices m (placed_nodes s l p v at)
   slices_of s l p (body bs) m before rear at h e place =
-      slices_of_body l p m before bs (copies (padding (length bs)) 0 ++ rear) at h (behind_first m before bs (copies (padding (length bs)) 0) rear e) place
+      slices_of_body l p m before bs (copies (padding (length bs)) 0 ++ rear) at h
+      (behind_first m before bs (copies (padding (length bs)) 0) rear e) place
   slices_of s l p (group vs) m before rear at h e place =
       slices_behind m (map (at_place at) (group_nodes l p)) (placed_each s (members s l p) vs at)
       (slices_of_none m at (group_nodes l p) (none_of_group l p))
@@ -193,17 +215,21 @@ mutual
   slices_of s l p (headed w vs) m before rear at h e place =
       slices_behind m (map (at_place at) (head_nodes s l p w)) (placed_each s (behind s l p w) vs (at + 4))
       (slices_of_none m at (head_nodes s l p w) (none_of_head s l p w))
-      (slices_of_each s (behind s l p w) vs m (before ++ word w) rear (at + 4) (of_behind s l p w h) (behind_more m before (word w) (encs vs) rear e)
+      (slices_of_each s (behind s l p w) vs m (before ++ word w) rear (at + 4) (of_behind s l p w h)
+      (behind_more m before (word w) (encs vs) rear e)
       (longer before (word w) at 4 place (word_length w)))
 
-  slices_of_each : (s : Schema) (js : List Job) (vs : Values) (m before rear : List ℕ) (at : ℕ) → AreFaithful js → m ≡ before ++ (encs vs ++ rear) → at ≡ length before
+  slices_of_each : (s : Schema) (js : List Job) (vs : Values) (m before rear : List ℕ) (at : ℕ)
+      → AreFaithful js → m ≡ before ++ (encs vs ++ rear) → at ≡ length before
       → ShowSlices m (placed_each s js vs at)
   slices_of_each s [] vs m before rear at h e place = tt
   slices_of_each s (j ∷ js) end m before rear at h e place = tt
   slices_of_each s (j ∷ js) (more v vs) m before rear at h e place =
       slices_behind m (placed_nodes s j.layout j.spot v at) (placed_each s js vs (at + length (enc v)))
-      (slices_of s j.layout j.spot v m before (encs vs ++ rear) at h.0 (behind_first m before (enc v) (encs vs) rear e) place)
-      (slices_of_each s js vs m (before ++ enc v) rear (at + length (enc v)) h.1 (behind_more m before (enc v) (encs vs) rear e)
+      (slices_of s j.layout j.spot v m before (encs vs ++ rear) at h.0
+      (behind_first m before (enc v) (encs vs) rear e) place)
+      (slices_of_each s js vs m (before ++ enc v) rear (at + length (enc v)) h.1
+      (behind_more m before (enc v) (encs vs) rear e)
       (longer before (enc v) at (length (enc v)) place refl))
 
 each_of : (m : List ℕ) (ns : List PlacedNode) → ShowSlices m ns → All (ShowsSlice m) ns
@@ -213,8 +239,10 @@ each_of m (n ∷ ns) h (suc k) d lt = each_of m ns h.1 k d (omega arith)
 
 -- ---- a message
 
-pub shown_in_place : (s : Schema) (id : TypeId) (bytes : List ℕ) (shown : List Node) → IsShown s id bytes shown
-    → (placed : List PlacedNode) × IsShownAt s id bytes placed × (shown ≡ map (λ n. n.node) placed) × All (ShowsSlice bytes) placed
+pub shown_in_place : (s : Schema) (id : TypeId) (bytes : List ℕ) (shown : List Node)
+    → IsShown s id bytes shown
+    → (placed : List PlacedNode) × IsShownAt s id bytes placed × (shown ≡ map (λ n. n.node) placed)
+    × All (ShowsSlice bytes) placed
 shown_in_place s id bytes shown x =
     let l = (root_job s id).layout in
     let p = (root_job s id).spot in
@@ -222,10 +250,12 @@ shown_in_place s id bytes shown x =
       placed_nodes s l p x.0 0,
       (x.0, x.1, x.2, refl),
       x.3 ∙ sym (same_nodes s l p x.0 0),
-      each_of bytes (placed_nodes s l p x.0 0) (slices_of s l p x.0 bytes [] [] 0 (of_form s (form_at s id.form)) whole refl),
+      each_of bytes (placed_nodes s l p x.0 0) (slices_of s l p x.0 bytes [] [] 0
+          (of_form s (form_at s id.form)) whole refl),
     )
 
-pub one_placing : (s : Schema) (id : TypeId) (bytes : List ℕ) (a b : List PlacedNode) → IsShownAt s id bytes a → IsShownAt s id bytes b → a ≡ b
+pub one_placing : (s : Schema) (id : TypeId) (bytes : List ℕ) (a b : List PlacedNode)
+    → IsShownAt s id bytes a → IsShownAt s id bytes b → a ≡ b
 one_placing s id bytes a b x y =
     let l = (root_job s id).layout in
     let p = (root_job s id).spot in

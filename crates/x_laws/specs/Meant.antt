@@ -12,9 +12,12 @@ use Rattle.x_trees.specs.declared.names.mention.Use.TheVariants as uses
 use Rattle.x_names.specs.Declarers.{IsFirstDeclarer}
 use Rattle.x_names.specs.declared.names.Declarer.{Declarer}
 use Rattle.x_numbers.specs.Numbers.{is_enum_number}
+use Rattle.x_outline.specs.Bodies.{BodyAt, bodies, enumerators}
 use Rattle.x_rules.specs.Mentioned.{suits}
-use Rattle.x_rules.specs.Constants.{number_seen}
+use Rattle.x_rules.specs.Constants.{knowns, number_seen}
 use Rattle.x_rules.specs.Results.{Outcome, result_at, view_by, no_names}
+use Rattle.x_rules.specs.Rules.{IsSwitch}
+use Rattle.x_rules.specs.Types.{declaration_class}
 use Rattle.x_rules.specs.Views.{View, Class, Earlier, OfType, seen}
 use Rattle.x_trees.specs.declared.names.declared_name.NameKind.{NameKind}
 use Rattle.x_trees.specs.Seen.{names_of}
@@ -22,7 +25,9 @@ use Rattle.x_compile.specs.Compile.{IsCompilation, Item, faults_of}
 use Rattle.x_compile.specs.Known.{nothing_known}
 use Rattle.x_schema.specs.ProceduresOf.{IsProcedure, Numbered, numbers_by, procedures_of}
 use Rattle.x_schema.specs.Schema.{Schema, procedure_at}
-use Rattle.x_schema.specs.SchemaOf.{Known, IsDeclared, numbers_of, signed_word, typedefs, with_word}
+use Rattle.x_schema.specs.SchemaOf.{Known, IsDeclared, numbers_of, signed_word, typedefs, with_word, word_by}
+use Rattle.x_schema.specs.Sound.{is_legal}
+use Rattle.x_schema.specs.declared.form.Form.{Form}
 use Rattle.x_schema.specs.declared.procedure.CompactProcedure.{CompactProcedure}
 use Rattle.x_schema.specs.declared.procedure.ProcedureNumbers.{ProcedureNumbers}
 
@@ -111,6 +116,28 @@ IsArrayNumber number = (n : ℕ) × (0 < n) × (n < 2 ^ 32) × (number ≡ Some 
 -- there is one from -2^31 to 2^31-1
 abbrev pub IsEnumNumber : Option ℤ → Type 0
 IsEnumNumber number = (z : ℤ) × (number ≡ Some z) × (is_enum_number z ≡ true)
+
+-- ---- unions
+
+-- the class by which the rules go for what the item declares so
+abbrev pub class_seen : List (Option Definition) → List (Option Outcome) → ℕ → Definition → Declaration
+    → Option Class
+class_seen definitions results item d declaration =
+    declaration_class (sees definitions results item d)
+    (knowns (sees definitions results item d) (enumerators d)) declaration
+
+-- The item has the union, whose discriminant is declared so, and which the schema has at the place.
+pub record IsUnionIn (definitions : List (Option Definition)) (s : Schema) (item : ℕ) (d : Definition)
+    (union : BodyAt) (discriminant : Declaration) (place : ℕ) : Type 0 where
+  pub item_is : slice_get definitions item ≡ Some (Some d)
+  pub is_body : IsAmong (bodies d) union
+  pub at : ℕ
+  pub is_switch : IsSwitch union at discriminant
+  pub declared : IsDeclared s (whole definitions s) discriminant place
+
+-- a word stands for the number, and is one that a discriminant of the form may have
+abbrev pub HasWord : Form → ℤ → Type 0
+HasWord form z = (w : ℕ) × (word_by form z ≡ Some w) × (is_legal form w ≡ true)
 
 -- ---- procedures
 

@@ -2,22 +2,23 @@
 //! law.
 
 ghost use Rattle.std.specs.Prelude.{◌≡◌, ◌≢◌, ◌↔◌, ◌≤◌, ℕ, pos, Bool, true, List, [], length, map, slice_get};
-ghost use Rattle.std.specs.Prelude.{Option, Some, IsSome};
+ghost use Rattle.std.specs.Prelude.{◌∷◌, ◌++◌, ℤ, Option, Some, IsSome};
 ghost use Rattle.std.specs.List.{All, IsAmong};
 ghost use Rattle.std.specs.Map.{lookup};
 ghost use Rattle.std.specs.Str.{bytes_eq};
 ghost use Rattle.x_text.specs.Limits.{most_text};
 ghost use Rattle.x_lex.specs.declared.kind.Kind.{Kind};
 ghost use Rattle.x_trees.specs.Gloss.{FixedSize, Role};
-ghost use Rattle.x_trees.specs.Tree.{Definition, Enum, Enumerator, Value};
-ghost use Rattle.x_outline.specs.Bodies.{BodyAt, EnumeratorAt, bodies, enumerators};
+ghost use Rattle.x_trees.specs.Tree.{Declaration, Definition, Enum, Enumerator, Value};
+ghost use Rattle.x_outline.specs.Bodies.{BodyAt, EnumeratorAt, ValueAt, bodies, cases_of, enumerators};
 ghost use Rattle.x_rules.specs.Constants.{number_at};
 ghost use Rattle.x_rules.specs.Results.{Outcome, AreResults, no_names};
-ghost use Rattle.x_rules.specs.Rules.{HasRole, size_role, value_role};
+ghost use Rattle.x_rules.specs.Rules.{HasRole, IsOutside, IsSwitch, size_role, value_role};
+ghost use Rattle.x_rules.specs.Views.{Class, Other};
 ghost use Rattle.x_rules.specs.declared.fault.RuleCode.TheVariants.{Unknown};
 ghost use Rattle.x_schema.specs.ProceduresOf.{Numbered, numbers_by, procedures_of};
-ghost use Rattle.x_schema.specs.Schema.{Schema, IsProcedureAt, id_named, named_type, procedure_at};
-ghost use Rattle.x_schema.specs.SchemaOf.{number_in, numbers_of, words_from};
+ghost use Rattle.x_schema.specs.Schema.{Schema, IsProcedureAt, form_at, id_named, named_type, procedure_at};
+ghost use Rattle.x_schema.specs.SchemaOf.{case_word, number_in, numbers_of, words_from};
 ghost use Rattle.x_schema.specs.Schemas.{IsSchemaOf};
 ghost use Rattle.x_schema.specs.declared.schema.NamedType.{NamedType};
 ghost use Rattle.x_schema.specs.declared.schema.TypeId.{TypeId};
@@ -39,10 +40,10 @@ ghost use Rattle.x_wire.specs.MessageTexts.{Told};
 ghost use Rattle.x_wire.specs.StreamTexts.{IsStreamText, IsTextOf};
 ghost use Rattle.x_opening.specs.Opening.{AreRead};
 ghost use Rattle.x_opening.specs.declared.known.KnownSource.{KnownSource};
-ghost use Rattle.x_laws.specs.Meant.{AreFaultless, HasProcedure, IsArrayNumber, IsAsDeclared, IsEnumNumber};
-ghost use Rattle.x_laws.specs.Meant.{IsFaultless, IsFirstOfNumbers, IsSizeNumber, IsTypeName, IsUsedAsType};
-ghost use Rattle.x_laws.specs.Meant.{MeansType};
-ghost use Rattle.x_laws.specs.Meant.{number_meant, sees, words_meant};
+ghost use Rattle.x_laws.specs.Meant.{AreFaultless, HasProcedure, HasWord, IsArrayNumber, IsAsDeclared};
+ghost use Rattle.x_laws.specs.Meant.{IsEnumNumber, IsFaultless, IsFirstOfNumbers, IsSizeNumber, IsTypeName};
+ghost use Rattle.x_laws.specs.Meant.{IsUnionIn, IsUsedAsType, MeansType};
+ghost use Rattle.x_laws.specs.Meant.{class_seen, number_meant, sees, words_meant};
 ghost use Rattle.x_laws.specs.Places.{IsShownAt, PlacedNode, ShowsSlice};
 ghost use Rattle.x_laws.specs.Showing.{ShowsAlike, CallsAlike};
 
@@ -145,6 +146,39 @@ pub fn each_number()
         (d : Definition) → slice_get (definitions_of items) item ≡ Some (Some d) → (e : EnumeratorAt)
         → IsAmong (enumerators d) e
         → IsEnumNumber (lookup (bytes_eq e.name) (numbers_of (definitions_of items))) }
+{}
+
+/// In a text without a fault, before which nothing is known, each discriminant has a class that one may have
+/// (`known`), which is what its form says: a number is outside of the class exactly where no word of the form
+/// stands for it (`classes`). So each case of a union has a word, by which the text's types are made
+/// (`words`), and no two have the same one (`once`): none is left out (RFC 4506, section 4.15).
+pub fn each_case()
+    ensures known { (text : List ℕ) (items : List Item) → IsFaultless text items → (item : ℕ)
+        (d : Definition) → slice_get (definitions_of items) item ≡ Some (Some d) → (union : BodyAt)
+        → IsAmong (bodies d) union → (at : ℕ) (discriminant : Declaration) → IsSwitch union at discriminant
+        → (class : Class)
+        × (class_seen (definitions_of items) (map (λ i. i.result) items) item d discriminant ≡ Some class)
+        × (class ≢ Other) }
+    ensures classes { (text : List ℕ) (items : List Item) (s : Schema) → IsFaultless text items
+        → IsSchemaOf (definitions_of items) s → (item : ℕ) (d : Definition) (union : BodyAt)
+        (discriminant : Declaration) (place : ℕ)
+        → IsUnionIn (definitions_of items) s item d union discriminant place → (class : Class)
+        → class_seen (definitions_of items) (map (λ i. i.result) items) item d discriminant ≡ Some class
+        → (z : ℤ) → (IsOutside class z → ⊥) ↔ HasWord (form_at s place) z }
+    ensures words { (text : List ℕ) (items : List Item) (s : Schema) → IsFaultless text items
+        → IsSchemaOf (definitions_of items) s → (item : ℕ) (d : Definition) (union : BodyAt)
+        (discriminant : Declaration) (place : ℕ)
+        → IsUnionIn (definitions_of items) s item d union discriminant place
+        → (case : ValueAt) → IsAmong (cases_of union) case
+        → IsSome (case_word (numbers_of (definitions_of items)) (form_at s place) case.value) }
+    ensures once { (text : List ℕ) (items : List Item) (s : Schema) → IsFaultless text items
+        → IsSchemaOf (definitions_of items) s → (item : ℕ) (d : Definition) (union : BodyAt)
+        (discriminant : Declaration) (place : ℕ)
+        → IsUnionIn (definitions_of items) s item d union discriminant place
+        → (front rear : List ValueAt) (here : ValueAt) → cases_of union ≡ front ++ here ∷ rear
+        → (other : ValueAt) → IsAmong front other
+        → case_word (numbers_of (definitions_of items)) (form_at s place) other.value
+        ≡ case_word (numbers_of (definitions_of items)) (form_at s place) here.value → ⊥ }
 {}
 
 /// In a text without a fault, before which nothing is known, each procedure has its three numbers, of 32 bits

@@ -5,7 +5,7 @@
 mod laws;
 
 pub use laws::{
-    bodies_in_place, each_number, each_procedure, faultless_results, no_name_is_known, one_answer,
-    one_dump, one_showing, read_files_end_whole, schema_numbers, schema_targets, schema_types,
-    types_of_text,
+    bodies_in_place, each_case, each_number, each_procedure, faultless_results, no_name_is_known,
+    one_answer, one_dump, one_showing, read_files_end_whole, schema_numbers, schema_targets,
+    schema_types, types_of_text,
 };

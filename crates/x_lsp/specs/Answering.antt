@@ -1,9 +1,7 @@
 -- What is answered to questions about documents: of the document that a question names, at its text.
 use Rattle.std.specs.Prelude.{◌≡◌, ◌⊎◌, ℕ, List, true, IfSome, Option, None, Some, Result, Ok, Err}
 use Rattle.std.specs.Prelude.{option_and_then}
-use Rattle.std.specs.Global.{Global}
 use Rattle.std.specs.Str.Lossy.{utf8_lossy}
-use Rattle.std.specs.declared.vec.Vec.{Vec}
 use Rattle.serde_json.specs.Data.{Data, array, string}
 use Rattle.serde_json.specs.View.{items_of}
 use Rattle.serde_json.specs.Written.{compact_text}
@@ -21,6 +19,8 @@ use Rattle.x_documents.specs.Documents.{Document, document_of}
 use Rattle.x_documents.specs.Grounds.{CompilesOn, compiled_of}
 use Rattle.x_compile.specs.Compile.{tokens_of}
 use Rattle.x_contents.specs.DocumentTexts.{told_text}
+use Rattle.x_contents.specs.Kept.{found_text}
+use Rattle.x_contents.specs.declared.found.Found.{Found}
 use Rattle.x_contents.specs.Folds.{folds_in}
 use Rattle.x_contents.specs.Symbols.{symbols_in}
 use Rattle.x_contents.specs.Tokens.{numbers_in, tokens_data}
@@ -81,13 +81,13 @@ IsAnsweredBy id question (Some d) params said = IsAnsweredAt id question d d.tex
 -- ---- what the program finds
 
 abbrev pub FindsAt : Question → Document → (text : Option (List ℕ)) → (params : Option Data)
-    → Result (Vec ℕ Global) ErrorCode → Type 0
+    → Result Found ErrorCode → Type 0
 FindsAt question d None params result = result ≡ Err ContentModified
 FindsAt question d (Some shown) params (Ok found) =
-    (told : Data) × (found.items ≡ compact_text told) × IsResultOf question d shown params told
+    (told : Data) × (found_text found ≡ compact_text told) × IsResultOf question d shown params told
 FindsAt question d (Some shown) params (Err code) = is_of_question code ≡ true
 
-abbrev pub FindsOf : Question → Option Document → (params : Option Data) → Result (Vec ℕ Global) ErrorCode
+abbrev pub FindsOf : Question → Option Document → (params : Option Data) → Result Found ErrorCode
     → Type 0
 FindsOf question None params result = result ≡ Err InvalidParams
 FindsOf question (Some d) params result = FindsAt question d d.text params result

@@ -1,3 +1,4 @@
 pub mod Answering
+pub mod Saying
 pub mod Serving
 pub mod States

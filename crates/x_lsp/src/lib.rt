@@ -2,10 +2,14 @@
 //! with it.
 #![tactic(auto)]
 
+mod answer;
 mod running;
+mod said;
 mod server;
 mod serving;
 
+pub use answer::Answer;
 pub use running::serve_run;
+pub use said::Said;
 pub use server::Server;
 pub use serving::{ServeFault, serve};

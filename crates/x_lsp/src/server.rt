@@ -8,12 +8,14 @@ ghost use Rattle.serde_json.specs.Find.{get};
 ghost use Rattle.serde_json.specs.Read.{read};
 ghost use Rattle.serde_json.specs.View.{view};
 ghost use Rattle.serde_json.specs.Written.{has_float};
+ghost use Rattle.x_streams.specs.Writing.{Adds};
+ghost use Rattle.x_contents.specs.Kept.{found_text};
 ghost use Rattle.x_documents.specs.Grounds.{ground_of};
 ghost use Rattle.x_documents.specs.Noting.{Notes};
 ghost use Rattle.x_documents.specs.Replies.{said_of};
 ghost use Rattle.x_documents.specs.Views.{documents_of, view_document};
 ghost use Rattle.x_frames.specs.Answers.{IsRefused, IsSaid, IsSaidTo, IsText, IsToMethod, IsToNotification};
-ghost use Rattle.x_frames.specs.Answers.{IsToRequest};
+ghost use Rattle.x_frames.specs.Answers.{IsToRequest, framed, framed_if};
 ghost use Rattle.x_frames.specs.Lives.{end_of, is_of_question, is_of_request, life_behind, life_noted};
 ghost use Rattle.x_frames.specs.Lives.{method_named};
 ghost use Rattle.x_frames.specs.Messages.{asked_by};
@@ -22,23 +24,28 @@ ghost use Rattle.x_frames.specs.declared.answers.ErrorCode.TheVariants.{ParseErr
 ghost use Rattle.x_frames.specs.declared.life.Life.TheVariants.{Running};
 ghost use Rattle.x_frames.specs.declared.method.Method.TheVariants.{Ask, Initialize};
 ghost use Rattle.x_lsp.specs.Answering.{FindsAt, FindsOf, IsAnsweredBy, asked_document};
+ghost use Rattle.x_lsp.specs.Saying.{said_by};
 ghost use Rattle.x_lsp.specs.States.{GoesBy, GoesBySame, IsAskedOf, IsCancelled, IsInitialized};
 ghost use Rattle.x_lsp.specs.States.{IsMisread, IsPassedOver, IsQuestion, IsRefusedAs, LosesAll, Makes};
 ghost use Rattle.x_lsp.specs.States.{MakesOf};
 ghost use Rattle.x_lsp.specs.States.{fresh, is_running, state_of};
 
+use crate::answer::Answer;
+use crate::said::{Said, refused};
 use serde_json::Value;
 use std::alloc::{AllocError, Global};
-use x_contents::answer_about_document;
-use x_documents::{Documents, KeptTexts, OpenDocument, Reply, Setting, refused};
+use x_contents::{Found, answer_about_document};
+use x_documents::{Documents, KeptTexts, OpenDocument, Reply, Setting};
 use x_frames::{
-    ErrorCode, Incoming, Life, Method, PositionQuestion, Question, answer, capabilities_of,
-    classify, document_note, is_cancelled, mended_message, misread_note, result_text, uri_in,
+    ErrorCode, Incoming, Life, Method, PositionQuestion, Question, capabilities_of, classify,
+    document_note, is_cancelled, mended_message, misread_note, result_text, uri_in,
 };
 use x_hash::HashKey;
 use x_positions::Encoding;
 use x_published::{Client, client_in};
 use x_questions::{OpenText, answer_about_place};
+use x_text::{Pen, Sink};
+use x_value::add_number;
 
 /// How long a question is at most that can be cancelled, so that no other message is read twice that takes
 /// long to read.
@@ -86,17 +93,30 @@ impl<'k> Server<'k> {
         self.life.end()
     }
 
-    /// The text of a reply, if it has one.
-    pub fn text_of<'r>(&'r self, reply: &'r Reply) -> Option<&'r [u8]>
-        ensures { option_map (λ text. text.now) result ≡ said_of reply.now }
+    /// Adds what is said to a message, with its header.
+    pub fn add_said<S: Sink>(&self, said: &Said, pen: &mut Pen, sink: &mut S)
+        ensures { Adds pen.old (S.state sink.old) pen.new (S.state sink.new)
+            (framed_if (said_by said.now)) }
     {
-        self.kept.text_of(reply)
+        match said {
+            Said::Reply(reply) => self.add_reply(reply, pen, sink),
+            Said::Answered(answer) => answer.add_to(pen, sink),
+        }
+    }
+
+    fn add_reply<S: Sink>(&self, reply: &Reply, pen: &mut Pen, sink: &mut S)
+        ensures { Adds pen.old (S.state sink.old) pen.new (S.state sink.new)
+            (framed_if (said_of reply.now)) }
+    {
+        if let Some(text) = self.kept.text_of(reply) {
+            add_framed(text, pen, sink);
+        }
     }
 
     /// Does what a message asks for, and answers what is said to it.
-    pub fn reply(&mut self, body: &[u8]) -> Reply
-        ensures said { IsSaid self.old.life body.now (said_of result) self.new.life }
-        ensures makes { Makes (state_of self.old) body.now (said_of result) (state_of self.new) }
+    pub fn reply(&mut self, body: &[u8]) -> Said
+        ensures said { IsSaid self.old.life body.now (said_by result) self.new.life }
+        ensures makes { Makes (state_of self.old) body.now (said_by result) (state_of self.new) }
     {
         let error = match Value::from_slice(self.alloc, body) {
             Ok(message) => return self.reply_to(&message),
@@ -104,17 +124,17 @@ impl<'k> Server<'k> {
         };
         if error.is_memory() {
             let _ = self.documents.lose_all();
-            return Reply::NoMemoryAnswer;
+            return Said::Reply(Reply::NoMemoryAnswer);
         }
         self.reply_to_no_json(body)
     }
 
     /// Answers what is said to a body that is no JSON: but for halves of pairs of surrogates it may be a
     /// notification about a document.
-    fn reply_to_no_json(&mut self, body: &[u8]) -> Reply
+    fn reply_to_no_json(&mut self, body: &[u8]) -> Said
         requires { IsUtf8 body.now → read body.now ≡ None }
-        ensures said { IsSaid self.old.life body.now (said_of result) self.new.life }
-        ensures makes { Makes (state_of self.old) body.now (said_of result) (state_of self.new) }
+        ensures said { IsSaid self.old.life body.now (said_by result) self.new.life }
+        ensures makes { Makes (state_of self.old) body.now (said_by result) (state_of self.new) }
     {
         if let Some(message) = mended_message(self.alloc, body) {
             if let Some(reply) = self.miss(&message) {
@@ -125,8 +145,8 @@ impl<'k> Server<'k> {
     }
 
     /// Refuses a body that is no JSON, which may have been a change of any document.
-    fn refuse_no_json(&mut self) -> Reply
-        ensures said { IsRefused null ParseError (said_of result) }
+    fn refuse_no_json(&mut self) -> Said
+        ensures said { IsRefused null ParseError (said_by result) }
         ensures life { self.new.life ≡ self.old.life }
         ensures loses { LosesAll (state_of self.old) (state_of self.new) }
     {
@@ -136,23 +156,23 @@ impl<'k> Server<'k> {
 
     /// Takes a message that was misread for a notification which is not understood, if it is one about a
     /// document and the server runs.
-    fn miss(&mut self, message: &Value) -> Option<Reply>
+    fn miss(&mut self, message: &Value) -> Option<Said>
         ensures misread { IfSome result (λ reply. IsMisread (state_of self.old) (view message.now)
-            (said_of reply) (state_of self.new)) }
+            (said_by reply) (state_of self.new)) }
         ensures none { result ≡ None → self.new ≡ self.old }
     {
         if !is_running(self.life) {
             return None;
         }
         match misread_note(message) {
-            Some(note) => Some(self.documents.note(self.client, &self.setting, note)),
+            Some(note) => Some(self.documents.note(self.client, &self.setting, note).into()),
             None => None,
         }
     }
 
     /// Refuses a message that was too long to be read, which may have been a change of any document.
-    pub(crate) fn refuse_long(&mut self) -> Reply
-        ensures { IsPassedOver (state_of self.old) (said_of result) (state_of self.new) }
+    pub(crate) fn refuse_long(&mut self) -> Said
+        ensures { IsPassedOver (state_of self.old) (said_by result) (state_of self.new) }
     {
         let _all_lost = self.documents.lose_all();
         refused(self.alloc, &Value::Null, ErrorCode::TooLong)
@@ -160,9 +180,9 @@ impl<'k> Server<'k> {
 
     /// Refuses a question that a message cancels which is whole in the bytes behind it. There is no reply to
     /// any other message.
-    pub(crate) fn refuse_cancelled(&self, body: &[u8], later: &[u8]) -> Option<Reply>
+    pub(crate) fn refuse_cancelled(&self, body: &[u8], later: &[u8]) -> Option<Said>
         ensures { IfSome result (λ reply. IsCancelled (state_of self.now) body.now later.now
-            (said_of reply) (state_of self.now)) }
+            (said_by reply) (state_of self.now)) }
     {
         if later.is_empty() || body.len() > LONGEST_QUESTION || !is_running(self.life) {
             return None;
@@ -174,31 +194,31 @@ impl<'k> Server<'k> {
     }
 
     /// Does what a message asks for, and answers what is said to it.
-    fn reply_to(&mut self, message: &Value) -> Reply
-        ensures said { IsSaidTo self.old.life (asked_by (view message.now)) (said_of result) self.new.life }
+    fn reply_to(&mut self, message: &Value) -> Said
+        ensures said { IsSaidTo self.old.life (asked_by (view message.now)) (said_by result) self.new.life }
         ensures makes { MakesOf (state_of self.old) (asked_by (view message.now))
-            (get (codes "params") (view message.now)) (said_of result) (state_of self.new) }
+            (get (codes "params") (view message.now)) (said_by result) (state_of self.new) }
     {
         let params = message.get("params");
         match classify(message) {
             Incoming::Request { id, method } => self.answer_request(id, method, params),
             Incoming::Notification { method } => self.take_note(method, params),
-            Incoming::Response => Reply::Nothing,
+            Incoming::Response => Said::Reply(Reply::Nothing),
             Incoming::Invalid => refused(self.alloc, &Value::Null, ErrorCode::InvalidRequest),
         }
     }
 
     /// Answers a request, and does what it asks for where the server's life admits it.
-    fn answer_request(&mut self, id: &Value, name: &str, params: Option<&Value>) -> Reply
+    fn answer_request(&mut self, id: &Value, name: &str, params: Option<&Value>) -> Said
         requires { has_float (view id.now) ≡ false }
-        ensures said { IsToRequest self.old.life (view id.now) name.now (said_of result) self.new.life }
+        ensures said { IsToRequest self.old.life (view id.now) name.now (said_by result) self.new.life }
         ensures documents { self.new.documents ≡ self.old.documents }
         ensures goes { GoesBySame (state_of self.old) (state_of self.new)
             ⊎ IsInitialized (state_of self.old) (option_map (λ p. view p.now) params.entry)
             (state_of self.new) }
         ensures asked { self.old.life ≡ Running → IsAskedOf (view id.now) (method_named name.now)
             (documents_of self.old.documents) (option_map (λ p. view p.now) params.entry)
-            (said_of result) }
+            (said_by result) }
     {
         match self.life.admit(Method::named(name)) {
             Ok(method) => self.carry_out(id, method, params),
@@ -207,9 +227,9 @@ impl<'k> Server<'k> {
     }
 
     /// Does what a request asks for, and answers it.
-    fn carry_out(&mut self, id: &Value, method: Method, params: Option<&Value>) -> Reply
+    fn carry_out(&mut self, id: &Value, method: Method, params: Option<&Value>) -> Said
         requires { has_float (view id.now) ≡ false }
-        ensures said { IsToMethod self.old.life (view id.now) method (said_of result) self.new.life }
+        ensures said { IsToMethod self.old.life (view id.now) method (said_by result) self.new.life }
         ensures documents { self.new.documents ≡ self.old.documents }
         ensures goes { GoesBySame (state_of self.old) (state_of self.new)
             ⊎ ((method ≡ Initialize) × (self.new.life ≡ Running)
@@ -217,13 +237,13 @@ impl<'k> Server<'k> {
         ensures asked { (question : Question) → method ≡ Ask question
             → IsAnsweredBy (view id.now) question (asked_document (documents_of self.old.documents)
             (option_map (λ p. view p.now) params.entry)) (option_map (λ p. view p.now) params.entry)
-            (said_of result) }
+            (said_by result) }
     {
         match self.result_of(method, params) {
-            Ok(found) => match answer(self.alloc, id, found) {
-                Ok(text) => {
+            Ok(found) => match Answer::new(self.alloc, id, found) {
+                Ok(answer) => {
                     self.go_on(method, params);
-                    Reply::Text(text)
+                    Said::Answered(answer)
                 }
                 Err(_) => refused(self.alloc, id, ErrorCode::InternalError),
             },
@@ -232,8 +252,8 @@ impl<'k> Server<'k> {
     }
 
     /// The result of a request, as JSON.
-    fn result_of(&self, method: Method, params: Option<&Value>) -> Result<Vec<u8>, ErrorCode>
-        ensures text { IfOk result (λ text. IsText text.items) }
+    fn result_of(&self, method: Method, params: Option<&Value>) -> Result<Found, ErrorCode>
+        ensures text { IfOk result (λ found. IsText (found_text found)) }
         ensures code { IfErr result (λ code. is_of_request code ≡ true) }
         ensures asked { (question : Question) → method ≡ Ask question
             → FindsOf question (asked_document (documents_of self.now.documents)
@@ -242,17 +262,17 @@ impl<'k> Server<'k> {
     {
         match method {
             Method::Initialize => match capabilities_of(self.alloc, client_in(params).encoding) {
-                Ok(value) => result_text(self.alloc, &value),
+                Ok(value) => Ok(Found::Text(result_text(self.alloc, &value)?)),
                 Err(_) => Err(ErrorCode::InternalError),
             },
-            Method::Shutdown => result_text(self.alloc, &Value::Null),
+            Method::Shutdown => Ok(Found::Text(result_text(self.alloc, &Value::Null)?)),
             Method::Ask(question) => self.asked(question, params),
         }
     }
 
     /// The result of a question about a document, which must be open, as JSON.
-    fn asked(&self, question: Question, params: Option<&Value>) -> Result<Vec<u8>, ErrorCode>
-        ensures text { IfOk result (λ text. IsText text.items) }
+    fn asked(&self, question: Question, params: Option<&Value>) -> Result<Found, ErrorCode>
+        ensures text { IfOk result (λ found. IsText (found_text found)) }
         ensures code { IfErr result (λ code. is_of_request code ≡ true) }
         ensures finds { FindsOf question (asked_document (documents_of self.now.documents)
             (option_map (λ p. view p.now) params.entry)) (option_map (λ p. view p.now) params.entry)
@@ -273,8 +293,8 @@ impl<'k> Server<'k> {
         document: &OpenDocument,
         question: Question,
         params: Option<&Value>,
-    ) -> Result<Vec<u8>, ErrorCode>
-        ensures text { IfOk result (λ text. IsText text.items) }
+    ) -> Result<Found, ErrorCode>
+        ensures text { IfOk result (λ found. IsText (found_text found)) }
         ensures code { IfErr result (λ code. is_of_request code ≡ true) }
         ensures finds { FindsAt question (view_document document.now) (view_document document.now).text
             (option_map (λ p. view p.now) params.entry) result }
@@ -301,8 +321,8 @@ impl<'k> Server<'k> {
         document: &OpenDocument,
         question: PositionQuestion,
         params: Option<&Value>,
-    ) -> Result<Vec<u8>, ErrorCode>
-        ensures text { IfOk result (λ text. IsText text.items) }
+    ) -> Result<Found, ErrorCode>
+        ensures text { IfOk result (λ found. IsText (found_text found)) }
         ensures code { IfErr result (λ code. is_of_question code ≡ true) }
     {
         let text = OpenText {
@@ -319,7 +339,7 @@ impl<'k> Server<'k> {
             question,
             params,
         )?;
-        result_text(self.alloc, &found)
+        Ok(Found::Text(result_text(self.alloc, &found)?))
     }
 
     /// Goes on with the server's life behind a request that was answered.
@@ -340,24 +360,24 @@ impl<'k> Server<'k> {
 
     /// Does what a notification asks for. One that is not known is passed over, and so is each but `exit`
     /// where the server does not run.
-    fn take_note(&mut self, name: &str, params: Option<&Value>) -> Reply
-        ensures note { IsToNotification (said_of result) }
+    fn take_note(&mut self, name: &str, params: Option<&Value>) -> Said
+        ensures note { IsToNotification (said_by result) }
         ensures life { self.new.life ≡ life_noted self.old.life name.now }
         ensures client { self.new.client ≡ self.old.client }
         ensures setting { self.new.setting ≡ self.old.setting }
         ensures notes { MatchBool (is_running self.old.life)
             (Notes self.old.client (ground_of self.old.setting) (documents_of self.old.documents)
-            (noted_by name.now (option_map (λ p. view p.now) params.entry)) (said_of result)
+            (noted_by name.now (option_map (λ p. view p.now) params.entry)) (said_by result)
             (documents_of self.new.documents))
-            ((said_of result ≡ None) × (self.new.documents ≡ self.old.documents)) }
+            ((said_by result ≡ None) × (self.new.documents ≡ self.old.documents)) }
     {
         let serves = self.life == Life::Running;
         self.life = self.life.noted(name);
         if serves {
             let note = document_note(name, params);
-            self.documents.note(self.client, &self.setting, note)
+            self.documents.note(self.client, &self.setting, note).into()
         } else {
-            Reply::Nothing
+            Said::Reply(Reply::Nothing)
         }
     }
 }
@@ -370,9 +390,9 @@ fn is_running(life: Life) -> bool
 }
 
 /// Refuses a message that is a question, if one cancels it which is whole in the bytes behind it.
-fn refused_as(alloc: Global, message: &Value, later: &[u8]) -> Option<Reply>
+fn refused_as(alloc: Global, message: &Value, later: &[u8]) -> Option<Said>
     ensures { IfSome result
-        (λ reply. IsRefusedAs (asked_by (view message.now)) later.now (said_of reply)) }
+        (λ reply. IsRefusedAs (asked_by (view message.now)) later.now (said_by reply)) }
 {
     let Incoming::Request { id, method } = classify(message) else {
         return None;
@@ -389,4 +409,15 @@ fn is_question(name: &str) -> bool
     ensures { IsTrue result → IsQuestion name.now }
 {
     matches!(Method::named(name), Some(Method::Ask(_)))
+}
+
+/// Adds a text with its header.
+#[tactic(auto, using(x_text::proofs::Adding::four))]
+fn add_framed<S: Sink>(text: &[u8], pen: &mut Pen, sink: &mut S)
+    ensures { Adds pen.old (S.state sink.old) pen.new (S.state sink.new) (framed text.now) }
+{
+    pen.add(b"Content-Length: ", sink);
+    add_number(text.len(), pen, sink);
+    pen.add(b"\r\n\r\n", sink);
+    pen.add(text, sink);
 }

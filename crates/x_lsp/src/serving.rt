@@ -1,22 +1,20 @@
 //! A conversation with a client, over a tap and a sink.
 
 ghost use Rattle.std.specs.Prelude.{◌≡◌, MatchOption};
-ghost use Rattle.x_streams.specs.Writing.{Adds};
-ghost use Rattle.x_frames.specs.Answers.{framed, framed_if};
 ghost use Rattle.x_frames.specs.Framing.{FailsReading};
 ghost use Rattle.x_documents.specs.Grounds.{ground_of};
-ghost use Rattle.x_documents.specs.Replies.{said_of};
+ghost use Rattle.x_lsp.specs.Saying.{said_by};
 ghost use Rattle.x_lsp.specs.Serving.{AnswersNext, NamesFault, Serves, stop_by};
 ghost use Rattle.x_lsp.specs.States.{IsTakenBefore, fresh, state_of};
 
+use crate::said::Said;
 use crate::server::Server;
 use std::alloc::Global;
 use thiserror::Error;
-use x_documents::{Reply, Setting};
+use x_documents::Setting;
 use x_frames::{FrameFault, FrameFound, MessageReader};
 use x_hash::HashKey;
 use x_text::{Pen, Sink, Tap};
-use x_value::add_number;
 
 /// Why a conversation stops before its end, and how many bytes were written.
 #[derive(Clone, Copy, Debug, PartialEq, Eq, Error)]
@@ -138,13 +136,13 @@ fn answer_next<I: Tap, O: Sink>(
 {
     match reader.next(input) {
         Ok(FrameFound::Message) => {
-            let reply = take_message(server, reader.body(), reader.unread());
-            add_reply(server, &reply, pen, out);
+            let said = take_message(server, reader.body(), reader.unread());
+            server.add_said(&said, pen, out);
             Ok(Next::Answered)
         }
         Ok(FrameFound::Long) => {
-            let reply = server.refuse_long();
-            add_reply(server, &reply, pen, out);
+            let said = server.refuse_long();
+            server.add_said(&said, pen, out);
             Ok(Next::Answered)
         }
         Ok(FrameFound::End) => Ok(Next::NoMore),
@@ -153,32 +151,12 @@ fn answer_next<I: Tap, O: Sink>(
 }
 
 /// Answers a message with these bytes behind it.
-fn take_message(server: &mut Server, body: &[u8], later: &[u8]) -> Reply
-    ensures { IsTakenBefore (state_of server.old) body.now later.now (said_of result)
+fn take_message(server: &mut Server, body: &[u8], later: &[u8]) -> Said
+    ensures { IsTakenBefore (state_of server.old) body.now later.now (said_by result)
         (state_of server.new) }
 {
     match server.refuse_cancelled(body, later) {
-        Some(reply) => reply,
+        Some(said) => said,
         None => server.reply(body),
     }
-}
-
-/// Adds what is said to a message, with its header.
-fn add_reply<S: Sink>(server: &Server, reply: &Reply, pen: &mut Pen, sink: &mut S)
-    ensures { Adds pen.old (S.state sink.old) pen.new (S.state sink.new) (framed_if (said_of reply.now)) }
-{
-    if let Some(text) = server.text_of(reply) {
-        add_framed(text, pen, sink);
-    }
-}
-
-/// Adds a text with its header.
-#[tactic(auto, using(x_text::proofs::Adding::four))]
-fn add_framed<S: Sink>(text: &[u8], pen: &mut Pen, sink: &mut S)
-    ensures { Adds pen.old (S.state sink.old) pen.new (S.state sink.new) (framed text.now) }
-{
-    pen.add(b"Content-Length: ", sink);
-    add_number(text.len(), pen, sink);
-    pen.add(b"\r\n\r\n", sink);
-    pen.add(text, sink);
 }

@@ -8,4 +8,6 @@ mod memory;
 #[cfg(test)]
 mod requests;
 #[cfg(test)]
+mod said;
+#[cfg(test)]
 mod setting;

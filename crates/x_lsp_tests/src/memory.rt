@@ -1,6 +1,7 @@
 //! What a server says where memory runs out.
 ghost use Rattle.std.specs.Prelude.{◌≤◌};
 
+use crate::said::text_of;
 use crate::setting::SETTING;
 use refusals::{MOST_TURNS, begin, end};
 use std::alloc::Global;
@@ -103,17 +104,24 @@ fn say(
     requires { turn ≤ 20000 }
 {
     begin(alloc, turn)?;
-    let reply = server.reply(exchange.message);
+    let said = server.reply(exchange.message);
     let refused = end(alloc);
-    let said = server.text_of(&reply).unwrap_or_default();
-    let told = said == ANSWER || said == ANSWER_TO_NONE || said == NOTE;
-    assert!(rt; said == exchange.wanted || (refused && told));
+    let kept = text_of(alloc, server, &said)?;
+    let text = kept.as_slice();
+    let told = text == ANSWER || text == ANSWER_TO_NONE || text == NOTE;
+    assert!(rt; text == exchange.wanted || (refused && told));
     Ok(refused)
 }
 
-fn expect(rt: &impl Abort, server: &mut Server, exchange: Exchange) {
-    let reply = server.reply(exchange.message);
-    assert!(rt; server.text_of(&reply) == Some(exchange.wanted));
+fn expect(
+    rt: &impl Abort,
+    alloc: Global,
+    server: &mut Server,
+    exchange: Exchange,
+) -> Result<(), Fail> {
+    let said = server.reply(exchange.message);
+    assert!(rt; text_of(alloc, server, &said)?.as_slice() == exchange.wanted);
+    Ok(())
 }
 
 /// Each allocation of a message to a server with an open document refused in turn. Sent whole behind that,
@@ -128,8 +136,8 @@ fn say_with_little_memory(
         let _first = server.reply(INITIALIZE);
         let _opened = server.reply(OPEN);
         let refused = say(rt, alloc, &mut server, turn, exchange)?;
-        expect(rt, &mut server, OF_THE_WHOLE);
-        expect(rt, &mut server, OF_THE_QUESTION);
+        expect(rt, alloc, &mut server, OF_THE_WHOLE)?;
+        expect(rt, alloc, &mut server, OF_THE_QUESTION)?;
         if !refused {
             return Ok(turn);
         }

@@ -3,6 +3,7 @@
 ghost use Rattle.std.specs.Prelude.{◌≤◌};
 
 use crate::memory::{ANSWER, ANSWER_TO_NONE};
+use crate::said::text_of;
 use crate::setting::SETTING;
 use refusals::{MOST_TURNS, begin, end};
 use std::alloc::Global;
@@ -61,8 +62,8 @@ fn server_behind(alloc: Global, before: &[&[u8]]) -> Result<Server<'static>, Fai
 /// What a server says to a message behind these.
 fn said_to(alloc: Global, before: &[&[u8]], message: &[u8]) -> Result<Vec<u8>, Fail> {
     let mut server = server_behind(alloc, before)?;
-    let reply = server.reply(message);
-    Ok(Vec::from_slice(alloc, server.text_of(&reply).unwrap_or_default())?)
+    let said = server.reply(message);
+    text_of(alloc, &server, &said)
 }
 
 /// Says a message in a turn: what is said is what is wanted, or that memory ran out.
@@ -77,10 +78,11 @@ fn ask_once(
     requires { turn ≤ 20000 }
 {
     begin(alloc, turn)?;
-    let reply = server.reply(message);
+    let said = server.reply(message);
     let refused = end(alloc);
-    let said = server.text_of(&reply).unwrap_or_default();
-    assert!(rt; said == wanted || (refused && (said == ANSWER || said == ANSWER_TO_NONE)));
+    let kept = text_of(alloc, server, &said)?;
+    let text = kept.as_slice();
+    assert!(rt; text == wanted || (refused && (text == ANSWER || text == ANSWER_TO_NONE)));
     Ok(refused)
 }
 

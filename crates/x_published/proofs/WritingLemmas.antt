@@ -30,19 +30,23 @@ count_is : {X : Type 0} (told : X → Data) (xs : List X) → length xs ≡ item
 count_is told [] = refl
 count_is told (x ∷ xs) = ap suc (count_is told xs)
 
-each_sent : {X : Type 0} (told : X → Data) (xs : List X) (old mid new : Log) → WritesEach (λ x. SendsValue (told x)) xs old mid → Logs mid new seq_ends → SendsItems (items_of (map told xs)) old new
+each_sent : {X : Type 0} (told : X → Data) (xs : List X) (old mid new : Log)
+    → WritesEach (λ x. SendsValue (told x)) xs old mid → Logs mid new seq_ends
+    → SendsItems (items_of (map told xs)) old new
 each_sent told [] old mid new each ends = subst (λ l. Logs l new seq_ends) each ends
 each_sent told (x ∷ xs) old mid new each ends = (each.0, each.1, each_sent told xs each.0 mid new each.2 ends)
 
 -- a list is written as an array
-pub list_sent : {X : Type 0} (told : X → Data) (xs : List X) (old new : Log) → WritesSeq (λ x. SendsValue (told x)) xs old new → SendsValue (array (items_of (map told xs))) old new
+pub list_sent : {X : Type 0} (told : X → Data) (xs : List X) (old new : Log)
+    → WritesSeq (λ x. SendsValue (told x)) xs old new → SendsValue (array (items_of (map told xs))) old new
 list_sent told xs old new h = (
   h.0,
   subst (λ n. Logs old h.0 (seq_begins (Some n))) (count_is told xs) h.2,
   each_sent told xs h.0 h.1 new h.3 h.4,
 )
 
-plain_rest : (s : Severity) (o : Option Place) → members_have_float (rest_members s (option_map place_data o)) ≡ false
+plain_rest : (s : Severity) (o : Option Place) → members_have_float
+    (rest_members s (option_map place_data o)) ≡ false
 plain_rest s None = refl
 plain_rest s (Some p) = refl
 
@@ -62,5 +66,6 @@ plain_version (pos n) = refl
 plain_version (negsuc n) = refl
 
 -- what is published has no float
-pub plain_published : (uri : List ℕ) (version : ℤ) (ds : List Diagnostic) → has_float (published_data uri version (map data_of ds)) ≡ false
+pub plain_published : (uri : List ℕ) (version : ℤ) (ds : List Diagnostic)
+    → has_float (published_data uri version (map data_of ds)) ≡ false
 plain_published uri version ds = (λ i. plain_list ds i || (plain_version version i || false) || false)

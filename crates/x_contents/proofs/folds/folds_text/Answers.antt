@@ -8,5 +8,6 @@ use Rattle.x_contents.proofs.folds.folds_text.Goals as goal
 pub returns : goal.returns
 returns c =
     c.in_ok-end_list.ensures
-    ∙ ap ended (no_more fold_text c.loop-fold.text.items c.args.folds.now c.loop-fold.fold-index (91 ∷ flat_map fold_text c.args.folds.now) c.loop-fold-test.false c.loop-fold.invariant)
+    ∙ ap ended (no_more fold_text c.loop-fold.text.items c.args.folds.now c.loop-fold.fold-index
+    (91 ∷ flat_map fold_text c.args.folds.now) c.loop-fold-test.false c.loop-fold.invariant)
     ∙ folds_text c.args.folds.now

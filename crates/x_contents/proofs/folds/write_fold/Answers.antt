@@ -1,4 +1,4 @@
-use Rattle.std.proofs.Common.{◌++◌, ap, append_assoc, ◌∙◌}
+use Rattle.std.proofs.Common.{◌++◌, ap, ◌∙◌}
 use Rattle.std.specs.Prelude.{codes, decimal}
 use Rattle.x_contents.specs.Folds.{kind_text}
 use Rattle.x_contents.proofs.FoldLemmas.{seven_behind}
@@ -14,4 +14,5 @@ returns c =
     let five = c.in_ok-write_number-2.ensures ∙ ap (λ l. l ++ decimal f.lines.first) four in
     let six = c.in_ok-extend_from_slice-3.ensures.items ∙ ap (λ l. l ++ codes "}") five in
     c.in_ok-extend_from_slice-4.ensures.items ∙ ap (λ l. l ++ codes ",") six
-    ∙ seven_behind c.args.text.now.items (codes "{\"endLine\":") (decimal f.lines.last) (kind_text f.comment) (codes ",\"startLine\":") (decimal f.lines.first) (codes "}") (codes ",")
+    ∙ seven_behind c.args.text.now.items (codes "{\"endLine\":") (decimal f.lines.last) (kind_text f.comment)
+    (codes ",\"startLine\":") (decimal f.lines.first) (codes "}") (codes ",")

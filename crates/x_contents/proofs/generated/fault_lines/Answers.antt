@@ -15,8 +15,12 @@ returns-in-Ok c =
     let start = c.new-sink.result in
     let end = c.finish.new.sink.bytes in
     let lines = flat_map fault_line (faults_of c.args.session.now.text told.1) in
-    let none : Writes start [] c.new-pen.result start = subst (λ (p : Inked). Writes start [] p start) (sym c.new-pen.ensures) (writes_none start) in
-    let written : Appends start.bytes end lines = c.in-Ok.ensures.written start lines (told.3.goes_on start [] none) in
-    let from_none : Appends (Some []) end lines = subst (λ o. Appends o end lines) (ap (λ (s : Stream). s.bytes) c.new-sink.ensures) written in
-    let all : Appends (Some []) (Some c.into_bytes.result.items) lines = subst (λ o. Appends (Some []) o lines) c.into_bytes.ensures from_none in
+    let none : Writes start [] c.new-pen.result start = subst (λ (p : Inked). Writes start [] p start)
+    (sym c.new-pen.ensures) (writes_none start) in
+    let written : Appends start.bytes end lines = c.in-Ok.ensures.written start lines
+    (told.3.goes_on start [] none) in
+    let from_none : Appends (Some []) end lines = subst (λ o. Appends o end lines)
+    (ap (λ (s : Stream). s.bytes) c.new-sink.ensures) written in
+    let all : Appends (Some []) (Some c.into_bytes.result.items) lines = subst
+    (λ o. Appends (Some []) o lines) c.into_bytes.ensures from_none in
     (told.0, told.1, told.2, all)

@@ -8,6 +8,8 @@ use Rattle.x_contents.proofs.tokens.numbers_text.Goals as goal
 
 pub returns : goal.returns
 returns c =
-    let list_is : c.deref.result.now ≡ ended (codes "[" ++ flat_map number_text c.args.numbers.now) = c.deref.ensures.value ∙ c.in_ok-list.ensures in
+    let list_is : c.deref.result.now ≡ ended (codes "["
+    ++ flat_map number_text c.args.numbers.now) = c.deref.ensures.value ∙ c.in_ok-list.ensures in
     let one = c.in_ok-extend_from_slice.ensures.items ∙ (λ i. c.in_ok-text.ensures.items i ++ list_is i) in
-    c.in_ok-extend_from_slice-2.ensures.items ∙ ap (λ l. l ++ codes "}") one ∙ tokens_text_is c.args.numbers.now
+    c.in_ok-extend_from_slice-2.ensures.items ∙ ap (λ l. l ++ codes "}") one
+    ∙ tokens_text_is c.args.numbers.now

@@ -12,6 +12,7 @@ loop-mention-preserved c =
     let kinds = c.loop-mention.kinds.items in
     let rest = drop (c.loop-mention.mention-index + 1) c.args.mentioned.now in
     let front = drop_more c.args.mentioned.now c.loop-mention.mention-index _ c.loop-mention-test.true in
-    ap (λ k. with_uses first words k (map view_mention rest)) (c.put_kind_at.ensures ∙ (λ i. with_kind kinds (c.place_of.ensures i) (c.of_used-kind.ensures i)))
+    ap (λ k. with_uses first words k (map view_mention rest))
+    (c.put_kind_at.ensures ∙ (λ i. with_kind kinds (c.place_of.ensures i) (c.of_used-kind.ensures i)))
     ∙ sym (ap (λ l. with_uses first words kinds (map view_mention l)) front)
     ∙ c.loop-mention.invariant

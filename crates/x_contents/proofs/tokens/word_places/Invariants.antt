@@ -5,4 +5,5 @@ use Rattle.x_contents.proofs.tokens.word_places.Given as goal
 
 abbrev pub invariant-loop-place : goal.invariant-loop-place
 invariant-loop-place l =
-    l.places.items ++ word_places l.place (map lexeme (drop l.place l.tokens)) ≡ word_places 0 (map lexeme l.tokens)
+    l.places.items ++ word_places l.place (map lexeme (drop l.place l.tokens)) ≡ word_places 0
+    (map lexeme l.tokens)

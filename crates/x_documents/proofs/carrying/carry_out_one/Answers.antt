@@ -15,19 +15,25 @@ follow_edit-requires-clause-within c =
 
 pub returns-in_err-follow_edit-clause-fault : goal.returns-in_err-follow_edit-clause-fault
 returns-in_err-follow_edit-clause-fault c =
-    let p = err_from_is_err_and c.from_residual-in_err-follow_edit.result c.from_residual-in_err-follow_edit.ensures.1 in
+    let p = err_from_is_err_and c.from_residual-in_err-follow_edit.result
+    c.from_residual-in_err-follow_edit.ensures.1 in
     let edit = c.in_ok-edit.edit in
     let shown = c.args.shown.now in
     let new = c.apply_change.new.text in
     let blanks = c.args.blanks in
     let fault = c.in_err-follow_edit.field-0.0 in
-    let stands : Stands blanks new = stands_behind blanks shown new edit c.requires.stood.stands c.in_ok-edit.ensures.makes
+    let stands : Stands blanks new = stands_behind blanks shown new edit c.requires.stood.stands
+    c.in_ok-edit.ensures.makes
     (c.stands.ensures.hash c.if-stands.true)
-    (λ yes. subst (λ t. has_mark t ≡ false) c.bytes.ensures.text (c.stands.ensures.mark c.if-stands.true yes)) in
+    (λ yes. subst (λ t. has_mark t ≡ false) c.bytes.ensures.text
+    (c.stands.ensures.mark c.if-stands.true yes)) in
     rw (p.1, p.2) (inr (subst
-    (λ t. IsNotCompiled (ground_with c.args.files.now c.args.compiled.now.from_c blanks false 0) t fault) c.in_ok-edit.ensures.text
-    (edit_refused {T = Unit {0}} (Err fault) c.args.files.now shown new blanks c.args.compiled.now edit c.requires.stood
-    c.in_ok-edit.ensures.makes stands c.in_err-follow_edit.ensures.large c.in_err-follow_edit.ensures.in_range)))
+    (λ t. IsNotCompiled (ground_with c.args.files.now c.args.compiled.now.from_c blanks false 0) t fault)
+    c.in_ok-edit.ensures.text
+    (edit_refused {T = Unit {0}}
+    (Err fault) c.args.files.now shown new blanks c.args.compiled.now edit c.requires.stood
+    c.in_ok-edit.ensures.makes stands c.in_err-follow_edit.ensures.large
+    c.in_err-follow_edit.ensures.in_range)))
 
 pub returns-then-stands-clause-followed : goal.returns-then-stands-clause-followed
 returns-then-stands-clause-followed c =
@@ -35,10 +41,13 @@ returns-then-stands-clause-followed c =
     let shown = c.args.shown.now in
     let new = c.apply_change.new.text in
     let blanks = c.args.blanks in
-    let stands : Stands blanks new = stands_behind blanks shown new edit c.requires.stood.stands c.in_ok-edit.ensures.makes
+    let stands : Stands blanks new = stands_behind blanks shown new edit c.requires.stood.stands
+    c.in_ok-edit.ensures.makes
     (c.stands.ensures.hash c.if-stands.true)
-    (λ yes. subst (λ t. has_mark t ≡ false) c.bytes.ensures.text (c.stands.ensures.mark c.if-stands.true yes)) in
-    edit_compiled c.args.files.now shown new blanks c.args.compiled.now c.follow_edit.new.text edit c.requires.stood
+    (λ yes. subst (λ t. has_mark t ≡ false) c.bytes.ensures.text
+    (c.stands.ensures.mark c.if-stands.true yes)) in
+    edit_compiled c.args.files.now shown new blanks c.args.compiled.now c.follow_edit.new.text edit
+    c.requires.stood
     c.in_ok-edit.ensures.makes stands c.follow_edit.ensures.files c.follow_edit.ensures.from_c
     c.in_ok-follow_edit.ensures.text c.in_ok-follow_edit.ensures.before
 
@@ -46,6 +55,7 @@ pub returns-then-stands-clause-stands : goal.returns-then-stands-clause-stands
 returns-then-stands-clause-stands c = λ yes.
     let new = c.apply_change.new.text in
     let blanks = c.args.blanks in
-    stands_behind blanks c.args.shown.now new c.in_ok-edit.edit c.requires.stood.stands c.in_ok-edit.ensures.makes
+    stands_behind blanks c.args.shown.now new c.in_ok-edit.edit c.requires.stood.stands
+    c.in_ok-edit.ensures.makes
     (c.stands.ensures.hash c.if-stands.true)
     (λ yes. subst (λ t. has_mark t ≡ false) c.bytes.ensures.text (c.stands.ensures.mark c.if-stands.true yes))

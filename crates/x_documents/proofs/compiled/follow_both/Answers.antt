@@ -12,26 +12,31 @@ pub returns-then-eq-clause-before : goal.returns-then-eq-clause-before
 returns-then-eq-clause-before c =
     let old = c.args.text.now in
     let same : c.args.files.now ≡ old.files.items =
-    (bytes_eq-Decides c.args.files.now c.as_slice.result.now).0 (sym c.eq.ensures ∙ c.if-eq.true) ∙ c.as_slice.ensures.value in
-    subst (λ f. OnOk c.follow.result ∥ IsBefore f old.from_c c.args.bytes.now c.follow.new.text.session.known ∥₁) (sym same)
+    (bytes_eq-Decides c.args.files.now c.as_slice.result.now).0 (sym c.eq.ensures ∙ c.if-eq.true)
+    ∙ c.as_slice.ensures.value in
+    subst (λ f. OnOk c.follow.result ∥ IsBefore f old.from_c c.args.bytes.now c.follow.new.text.session.known
+    ∥₁) (sym same)
     c.follow.ensures.before
 
 pub returns-then-eq-clause-large : goal.returns-then-eq-clause-large
 returns-then-eq-clause-large c =
     let old = c.args.text.now in
     let same : c.args.files.now ≡ old.files.items =
-    (bytes_eq-Decides c.args.files.now c.as_slice.result.now).0 (sym c.eq.ensures ∙ c.if-eq.true) ∙ c.as_slice.ensures.value in
+    (bytes_eq-Decides c.args.files.now c.as_slice.result.now).0 (sym c.eq.ensures ∙ c.if-eq.true)
+    ∙ c.as_slice.ensures.value in
     subst (λ f. IsErrOf c.follow.result TooLarge → ∥ (most_text < length c.args.bytes.now)
     ⊎ IsCrowded f old.from_c c.args.bytes.now ∥₁) (sym same) c.follow.ensures.large
 
 pub returns-else-eq-clause-over : goal.returns-else-eq-clause-over
 returns-else-eq-clause-over c =
-    over_replaced c.replace.result c.args.text.now c.replace.new.self c.replace.ensures.over c.replace.ensures.same
+    over_replaced c.replace.result c.args.text.now c.replace.new.self c.replace.ensures.over
+    c.replace.ensures.same
     c.requires
 
 pub returns-else-eq-clause-before : goal.returns-else-eq-clause-before
 returns-else-eq-clause-before c =
-    on_merely (IsBefore c.args.files.now c.args.text.now.from_c c.args.bytes.now c.replace.new.self.session.known)
+    on_merely (IsBefore c.args.files.now c.args.text.now.from_c c.args.bytes.now
+    c.replace.new.self.session.known)
     c.replace.result c.replace.ensures.before
 
 pub returns-else-eq-clause-large : goal.returns-else-eq-clause-large

@@ -28,12 +28,14 @@ returns-clause-compiled c =
     let done = c.follow_both-2.ensures in
     followed_so c.follow_both-2.result c.args.files.now c.args.blanks c.args.shown.now c.deref.result.now
     c.deref-2.result.now c.args.text.now.from_c c.follow_both-2.new.text
-    (c.deref.ensures.value ∙ c.in-Ok.ensures.files) (c.deref-2.ensures.value ∙ c.in-Ok.ensures.text) done.files
+    (c.deref.ensures.value ∙ c.in-Ok.ensures.files)
+    (c.deref-2.ensures.value ∙ c.in-Ok.ensures.text) done.files
     done.text done.from_c done.before
 
 pub returns-clause-fault : goal.returns-clause-fault
 returns-clause-fault c =
     let done = c.follow_both-2.ensures in
-    not_compiled c.follow_both-2.result c.args.files.now c.args.text.now.from_c c.args.blanks false 0 c.args.shown.now
+    not_compiled c.follow_both-2.result c.args.files.now c.args.text.now.from_c c.args.blanks false 0
+    c.args.shown.now
     c.deref.result.now c.deref-2.result.now (c.deref.ensures.value ∙ c.in-Ok.ensures.files)
     (c.deref-2.ensures.value ∙ c.in-Ok.ensures.text) done.large done.in_range

@@ -17,6 +17,8 @@ returns-clause-over c = opened_over c.open.result c.open.ensures.over
 pub returns-clause-fault : goal.returns-clause-fault
 returns-clause-fault c =
     let setting = c.args.setting.now in
-    not_compiled c.open.result setting.files.now setting.from_c setting.blanks setting.warns setting.most c.args.shown.now c.deref.result.now
-    c.deref-2.result.now (c.deref.ensures.value ∙ c.in-Ok.ensures.files) (c.deref-2.ensures.value ∙ c.in-Ok.ensures.text)
+    not_compiled c.open.result setting.files.now setting.from_c setting.blanks setting.warns setting.most
+    c.args.shown.now c.deref.result.now
+    c.deref-2.result.now (c.deref.ensures.value ∙ c.in-Ok.ensures.files)
+    (c.deref-2.ensures.value ∙ c.in-Ok.ensures.text)
     (λ e. merely (c.open.ensures.large e)) c.open.ensures.in_range

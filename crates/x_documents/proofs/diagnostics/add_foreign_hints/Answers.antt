@@ -26,10 +26,12 @@ loop-name-preserved c =
     let text = c.args.text.now in
     let inv = c.loop-name.invariant in
     let message = c.in_ok-foreign_message.field-0 in
-    let made : Diagnostic = record { severity = Hint; message = OfFault message; range = c.range.result; related = None } in
+    let made : Diagnostic = record
+    { severity = Hint; message = OfFault message; range = c.range.result; related = None } in
     let front = fault_text (Rule Unknown) ++ codes ": " in
     let begins : take (length front) (string_bytes message.text) ≡ front =
-    subst (λ v. take (length (fault_text v ++ codes ": ")) (string_bytes message.text) ≡ fault_text v ++ codes ": ")
+    subst (λ v. take (length (fault_text v ++ codes ": ")) (string_bytes message.text) ≡ fault_text v
+    ++ codes ": ")
     c.in_ok-foreign_message.ensures message.told in
     let sentence = drop (length front) (string_bytes message.text) in
     let said = begun_so front (string_bytes message.text) begins in
@@ -37,7 +39,8 @@ loop-name-preserved c =
     let first = c.range.ensures.start in
     let last = c.range.ensures.end in (
       inv.0 ++ data_of made ∷ [],
-      hint_more e shown text c.args.names.now c.loop-name.name-index _ inv.0 (data_of made) c.loop-name-test.true
+      hint_more e shown text c.args.names.now c.loop-name.name-index _ inv.0
+          (data_of made) c.loop-name-test.true
           inv.1 (record {
             end = c.token_end.result;
             sentence = sentence;
@@ -53,7 +56,8 @@ pub returns : goal.returns
 returns c =
     let inv = c.loop-name.invariant in (
       inv.0,
-      subst (λ ns. AreForeignHints c.args.marks.now.encoding c.args.shown.now c.args.text.now (view_all ns) inv.0)
+      subst (λ ns. AreForeignHints c.args.marks.now.encoding c.args.shown.now c.args.text.now
+          (view_all ns) inv.0)
           (take_all c.loop-name.name-index c.args.names.now c.loop-name-test.false) inv.1,
       inv.2,
     )

@@ -12,11 +12,13 @@ use Rattle.x_documents.proofs.diagnostics.add_hints.Goals as goal
 pub loop-place-preserved : goal.loop-place-preserved
 loop-place-preserved c =
     let message = c.in_ok-branch_message.field-0 in
-    let made : Diagnostic = record { severity = Hint; message = OfFault message; range = c.range.result; related = None } in
+    let made : Diagnostic = record
+    { severity = Hint; message = OfFault message; range = c.range.result; related = None } in
     one_more data_of (hint_data c.args.marks.now.encoding c.args.shown.now) c.loop-place.list.items made
     c.push.new.self.items c.deref-place-items.result.now c.loop-place.place-index _
     (map data_of c.args.list.now.items ++ map (hint_data c.args.marks.now.encoding c.args.shown.now)
     c.deref-place-items.result.now) c.loop-place-test.true c.in_ok-push.ensures.items
     (λ i. diagnostic_data Hint (c.in_ok-branch_message.ensures.number i)
-    (range_data (c.range.ensures.start i) (c.range.ensures.end i)) (c.in_ok-branch_message.ensures.text i) None)
+    (range_data (c.range.ensures.start i) (c.range.ensures.end i))
+    (c.in_ok-branch_message.ensures.text i) None)
     c.loop-place.invariant

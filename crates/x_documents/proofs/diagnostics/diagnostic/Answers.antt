@@ -17,14 +17,16 @@ returns-clause-diagnostic c tokens items compiled =
     let code = c.args.fault.now.code in
     let start = c.args.fault.now.start in
     let end = c.args.fault.now.end in
-    let first = c.range-range.ensures.start ∙ ap (λ v. position_of v shown start) c.requires.others.encoding in
+    let first = c.range-range.ensures.start
+    ∙ ap (λ v. position_of v shown start) c.requires.others.encoding in
     let second = c.range-range.ensures.end ∙ ap (λ v. position_of v shown end) c.requires.others.encoding in
     let message = c.in_ok-message.message in
     let same : message.code ≡ code = c.in_ok-message.ensures in
     let front = fault_text code ++ codes ": " in
     let said = string_bytes message.text in
     let begins : take (length front) said ≡ front =
-    subst (λ v. take (length (fault_text v ++ codes ": ")) said ≡ fault_text v ++ codes ": ") same message.told in
+    subst (λ v. take (length (fault_text v ++ codes ": ")) said ≡ fault_text v
+    ++ codes ": ") same message.told in
     let sentence = drop (length front) said in
     let text_is : said ≡ fault_text code ++ codes ": " ++ sentence = begun_so front said begins in
     let numbered : message.number ≡ fault_number code = message.numbered ∙ ap fault_number same in
@@ -37,8 +39,10 @@ returns-clause-diagnostic c tokens items compiled =
       other = other;
       token = c.requires.end;
       other_is =
-          subst (λ w. IsRangeAt e shown text (other_place client.shows_related items code w start) other) word_is
-          (subst (λ b. IsRangeAt e shown text (other_place b items code word start) other) c.requires.others.shown
+          subst (λ w. IsRangeAt e shown text
+          (other_place client.shows_related items code w start) other) word_is
+          (subst (λ b. IsRangeAt e shown text
+          (other_place b items code word start) other) c.requires.others.shown
           (subst (λ v. IsRangeAt v shown text (other_place others.shown items code word start) other)
           c.requires.others.encoding (c.in_ok-other.ensures.range tokens items compiled)));
       data_is = λ i. diagnostic_data (c.severity_of.ensures i) (numbered i) (range_data (first i) (second i))

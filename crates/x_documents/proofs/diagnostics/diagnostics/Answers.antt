@@ -31,7 +31,8 @@ returns-clause-diagnostics c =
       (
         ds,
         subst (λ t. AreDiagnostics client uri t text items places ds) seen.text
-            (subst (λ (d : Document). AreDiagnostics client uri others.text.now d.text items places ds) seen.session
+            (subst (λ (d : Document). AreDiagnostics client uri others.text.now d.text items places ds)
+            seen.session
             told),
         c.in_ok-add_some.ensures ∙ ap (λ l. ds ++ l) (c.in_ok-unshown.ensures ∙ ap unshown_data found.3.1),
       ),

@@ -33,7 +33,8 @@ diagnostic-requires-clause-end c =
     let faults = c.args.faults.now in
     let i = c.loop-fault.fault-index in
     let fault = get_or faults i no_fault in
-    subst (λ (d : Document). IsEndOfToken d.text fault.start fault.end) (sym c.loop-fault.invariant.same.session)
+    subst (λ (d : Document). IsEndOfToken d.text fault.start fault.end)
+    (sym c.loop-fault.invariant.same.session)
     (ends_there c.args.others.now.session.now.text c.requires.found.0 faults i no_fault c.loop-fault-test.true
     c.requires.found.1)
 
@@ -64,9 +65,12 @@ loop-fault-preserved c =
       marker = subst (λ t. IsMarkerFor client t c.diagnostic.new.marker) inv.same.text new.marker;
       told = λ places tokens items found compiled.
           let here = new.diagnostic tokens items
-          (subst (λ (d : Document). IsCompilation d.known d.text tokens items) (sym inv.same.session) compiled) in
-          let is = subst (λ t. IsDiagnostic client uri t text items (place_of_found fault) data') inv.same.text
-          (subst (λ (d : Document). IsDiagnostic client uri now.text.now d.text items (place_of_found fault) data')
+          (subst (λ (d : Document). IsCompilation d.known d.text tokens items)
+          (sym inv.same.session) compiled) in
+          let is = subst (λ t. IsDiagnostic client uri t text items
+          (place_of_found fault) data') inv.same.text
+          (subst (λ (d : Document). IsDiagnostic client uri now.text.now d.text items
+          (place_of_found fault) data')
           inv.same.session here) in
           subst (AreDiagnostics client uri shown text items (take (i + 1) places)) (sym listed)
           (told_more client uri shown text items places faults i fault no_fault (map data_of list) data'

@@ -15,7 +15,8 @@ pub returns-clause-marks : goal.returns-clause-marks
 returns-clause-marks c =
     let text = c.args.shown.now in
     let marker = c.diagnostics.new.marker in
-    let encoding : marker.encoding ≡ c.args.marks.now.encoding = c.in_ok-list.ensures.counted ∙ sym c.requires.encoding in
+    let encoding : marker.encoding ≡ c.args.marks.now.encoding = c.in_ok-list.ensures.counted
+    ∙ sym c.requires.encoding in
     c.keep_faults.ensures.marks text c.requires.marks
     (subst (λ t. All (IsWaymark c.args.marks.now.encoding t) marker.list.items) c.in_ok-list.ensures.text
     (subst (λ e. All (IsWaymark e marker.text.now) marker.list.items) encoding marker.marked))
@@ -47,7 +48,8 @@ returns-clause-said c =
         diagnostics.3,
         subst (λ x. AreForeignHints x shown c.args.session.now.text (view_all hints.foreign.now) foreign.0)
             c.requires.encoding
-            (subst (λ t. AreForeignHints c.args.marks.now.encoding shown t (view_all hints.foreign.now) foreign.0)
+            (subst (λ t. AreForeignHints c.args.marks.now.encoding shown t
+            (view_all hints.foreign.now) foreign.0)
             c.bytes.ensures foreign.1),
         warned.1,
         subst (λ v. c.in_ok-said.said.items ≡ compact_text (published_data c.args.uri.now v

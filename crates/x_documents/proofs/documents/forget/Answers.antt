@@ -13,9 +13,12 @@ documents-preserved-then-is_name_of c =
     let within = c.documents.invariant.within in
     let x = c.index.result.now in
     let named : not (bytes_eq x.name.items (name_of c.args.uri.now)) ≡ false =
-    ap not (ap (λ n. bytes_eq n (name_of c.args.uri.now)) (sym c.deref.ensures.value) ∙ sym c.is_name_of.ensures ∙ c.if-is_name_of.true) in
+    ap not (ap (λ n. bytes_eq n (name_of c.args.uri.now)) (sym c.deref.ensures.value)
+    ∙ sym c.is_name_of.ensures ∙ c.if-is_name_of.true) in
     record {
-      left = c.remove_at.ensures ∙ gone (λ (d : OpenDocument). not (bytes_eq d.name.items (name_of c.args.uri.now))) old c.documents.documents.items c.documents.at k x next within
+      left = c.remove_at.ensures ∙ gone (λ (d : OpenDocument). not
+          (bytes_eq d.name.items
+          (name_of c.args.uri.now))) old c.documents.documents.items c.documents.at k x next within
           c.documents.invariant.left c.index.ensures named;
       within = omega (arith, within);
     }
@@ -28,9 +31,11 @@ documents-preserved c =
     let within = c.documents.invariant.within in
     let x = c.index.result.now in
     let other : not (bytes_eq x.name.items (name_of c.args.uri.now)) ≡ true =
-    ap not (ap (λ n. bytes_eq n (name_of c.args.uri.now)) (sym c.deref.ensures.value) ∙ sym c.is_name_of.ensures ∙ c.if-is_name_of.false) in
+    ap not (ap (λ n. bytes_eq n (name_of c.args.uri.now)) (sym c.deref.ensures.value)
+    ∙ sym c.is_name_of.ensures ∙ c.if-is_name_of.false) in
     record {
-      left = stays (λ (d : OpenDocument). not (bytes_eq d.name.items (name_of c.args.uri.now))) old c.documents.documents.items c.documents.at k x next within
+      left = stays (λ (d : OpenDocument). not (bytes_eq d.name.items
+          (name_of c.args.uri.now))) old c.documents.documents.items c.documents.at k x next within
           c.documents.invariant.left c.index.ensures other;
       within = omega (arith, within);
     }

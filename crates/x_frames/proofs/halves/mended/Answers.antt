@@ -12,7 +12,8 @@ loop-at-preserved c =
     let at = c.loop-at.at in
     let byte = get_or text at 0 in
     let next = c.byte_at-next.ensures in
-    let step = mended_step now then (mended text) escape at byte text c.loop-at-test.true refl c.loop-at.invariant
+    let step = mended_step now then
+    (mended text) escape at byte text c.loop-at-test.true refl c.loop-at.invariant
     (c.in_ok-push.ensures.items ∙ ap (λ b. now ++ b ∷ []) (c.put.ensures ∙ ap (put escape byte) next)) in
     subst (λ e. then ++ mended_from e (drop (at + 1) text) ≡ mended text)
     (sym (c.behind-escape.ensures ∙ ap (behind escape byte) next)) step

@@ -10,13 +10,15 @@ returns-then-end-gt-MOST_HEAD c =
     let s = c.requires.section in
     let len = s.2.len_is in
     let over = c.if-end-gt-MOST_HEAD.true in
-    refused_head c.args.bytes.now (drop c.args.end c.args.bytes.now) s.0 s.1 s.2.reads (λ n e short. omega (arith, len, over, short))
+    refused_head c.args.bytes.now (drop c.args.end c.args.bytes.now) s.0 s.1 s.2.reads
+    (λ n e short. omega (arith, len, over, short))
 
 pub returns-in_default : goal.returns-in_default
 returns-in_default c =
     let s = c.requires.section in
     let none = c.in_default.ensures ∙ ap announced s.2.fields_are in
-    refused_head c.args.bytes.now (drop c.args.end c.args.bytes.now) s.0 s.1 s.2.reads (λ n e short. let wrong = none ∙ e in cc)
+    refused_head c.args.bytes.now (drop c.args.end c.args.bytes.now) s.0 s.1 s.2.reads
+    (λ n e short. let wrong = none ∙ e in cc)
 
 pub returns : goal.returns
 returns c =

@@ -5,4 +5,5 @@ use Rattle.x_lsp.proofs.serving.serve.Goals as goal
 
 pub returns-in-Err-clause-serves : goal.returns-in-Err-clause-serves
 returns-in-Err-clause-serves g c = match_some (g.I.Tap.state c.args.input.now).bytes _ (λ input e.
-    unserved (ground_of c.args.setting) input (g.I.Tap.state c.args.input.now).bytes (g.O.Sink.state c.args.out.now))
+    unserved (ground_of c.args.setting) input (g.I.Tap.state c.args.input.now).bytes
+    (g.O.Sink.state c.args.out.now))

@@ -13,6 +13,10 @@ pub returns-in-Ok : goal.returns-in-Ok
 returns-in-Ok c =
     let list = c.args.list.items in
     let h = c.in-Ok.ensures.events in
-    let version = c.version_value.ensures ∙ ap (λ z. number (of_integer z)) (to_z-of_z w64 c.args.version c.ranges.version) in
-    let sent = subst (λ d. SendsValue (published_with c.args.uri.now d (map data_of list)) (Some []) h.0) version h.1 in
-    text_of_value (published_data c.args.uri.now c.args.version (map data_of list)) h.0 c.in-Ok.text.items sent h.2 (plain_published c.args.uri.now c.args.version list)
+    let version = c.version_value.ensures ∙ ap (λ z. number (of_integer z))
+    (to_z-of_z w64 c.args.version c.ranges.version) in
+    let sent = subst (λ d. SendsValue (published_with c.args.uri.now d (map data_of list))
+    (Some []) h.0) version h.1 in
+    text_of_value (published_data c.args.uri.now c.args.version
+    (map data_of list)) h.0 c.in-Ok.text.items sent h.2
+    (plain_published c.args.uri.now c.args.version list)

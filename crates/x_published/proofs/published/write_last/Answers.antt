@@ -10,7 +10,8 @@ returns g c =
       w c.key.new.self,
       w c.u64.new.self,
       c.in_ok-key.ensures,
-      subst (λ n. Logs (w c.key.new.self) (w c.u64.new.self) (unsigned n)) c.number.ensures c.in_ok-u64.ensures,
+      subst (λ n. Logs (w c.key.new.self) (w c.u64.new.self)
+          (unsigned n)) c.number.ensures c.in_ok-u64.ensures,
       (
         w c.key-2.new.self,
         w c.str.new.self,

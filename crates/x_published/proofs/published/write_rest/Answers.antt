@@ -9,7 +9,9 @@ use Rattle.x_published.proofs.published.write_rest.Goals as goal
 pub returns-in_ok-end_seq-in-Some : goal.returns-in_ok-end_seq-in-Some
 returns-in_ok-end_seq-in-Some g c =
     let w = g.S.Serializer.written in
-    subst (λ o. OnOk c.write_last.result (SendsMembers (rest_members c.args.severity (option_map place_data o)) (w c.args.out.now) (w c.write_last.new.out))) (sym c.in-Some.is)
+    subst (λ o. OnOk c.write_last.result (SendsMembers
+    (rest_members c.args.severity (option_map place_data o)) (w c.args.out.now)
+    (w c.write_last.new.out))) (sym c.in-Some.is)
     (on_ok c.write_last.result (λ last. (
       w c.key.new.self,
       w c.end_seq.new.self,

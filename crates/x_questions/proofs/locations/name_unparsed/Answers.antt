@@ -9,6 +9,7 @@ overflow_add-result c =
     let text = c.bytes.result.now in
     let start = c.args.token.now.start in
     let line : c.position.result.line ≡ lines_before text start =
-    ap (λ (p : Position). p.line) c.position.ensures.position ∙ ap (λ (p : EncodedText). lines_before p.text start) c.of-places.ensures in
+    ap (λ (p : Position). p.line) c.position.ensures.position
+    ∙ ap (λ (p : EncodedText). lines_before p.text start) c.of-places.ensures in
     let few = lines_few text start in
     omega (arith, line, few, c.bytes.ensures.small)

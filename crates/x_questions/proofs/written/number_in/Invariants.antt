@@ -4,4 +4,5 @@ use Rattle.x_questions.specs.Writing.{last_number}
 use Rattle.x_questions.proofs.written.number_in.Given as goal
 
 abbrev pub invariant-loop-token : goal.invariant-loop-token
-invariant-loop-token l = last_number l.number (map lexeme (drop l.token-index l.tokens)) ≡ last_number None (map lexeme l.tokens)
+invariant-loop-token l = last_number l.number (map lexeme (drop l.token-index l.tokens)) ≡ last_number None
+    (map lexeme l.tokens)

@@ -15,9 +15,12 @@ loop-place-preserved c =
     let rest = drop (place + 1) c.args.tokens.now in
     let front = drop_more c.args.tokens.now place _ c.loop-place-test.true in
     record {
-      told = ap (λ (t : EncodedText). with_tokens t.encoding shown kinds (told_of c.add_token.new.self) (place + 1) (map lexeme rest)) c.add_token.ensures.places
-          ∙ ap (λ t. with_tokens encoding shown kinds t (place + 1) (map lexeme rest)) c.in_ok-add_token.ensures.told
-          ∙ sym (ap (λ l. with_tokens encoding shown kinds (told_of c.loop-place.self) place (map lexeme l)) front)
+      told = ap (λ (t : EncodedText). with_tokens t.encoding shown kinds (told_of c.add_token.new.self)
+          (place + 1) (map lexeme rest)) c.add_token.ensures.places
+          ∙ ap (λ t. with_tokens encoding shown kinds t (place + 1)
+          (map lexeme rest)) c.in_ok-add_token.ensures.told
+          ∙ sym (ap (λ l. with_tokens encoding shown kinds (told_of c.loop-place.self) place
+          (map lexeme l)) front)
           ∙ c.loop-place.invariant.told;
       places = c.add_token.ensures.places ∙ c.loop-place.invariant.places;
     }

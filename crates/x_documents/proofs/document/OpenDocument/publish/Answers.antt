@@ -44,7 +44,8 @@ returns-in-Ok-publish-clause-says c =
             (subst (λ f. IsBefore f from text known) is.files_are before),
         subst (λ t. Compiles known t (λ items. (foreign : List ForeignName)
             × AreForeign front from t items foreign
-            × IsPublishedOf d.client (string_bytes d.uri) d.version d.blanks d.warns d.most foreign d.shown t items
+            × IsPublishedOf d.client
+            (string_bytes d.uri) d.version d.blanks d.warns d.most foreign d.shown t items
             said))
             is.text_is (
               published.0,
@@ -54,7 +55,8 @@ returns-in-Ok-publish-clause-says c =
                 names,
                 subst (λ f. AreForeign f from text items names) is.files_are
                     (of_each text (c.in-Ok.ensures over) published.0 items published.2),
-                published_alike d.client (string_bytes d.uri) d.version d.blanks d.stands d.warns d.most names d.shown text
+                published_alike d.client
+                    (string_bytes d.uri) d.version d.blanks d.stands d.warns d.most names d.shown text
                     items said looked c.has_lines.ensures (λ yes. (d.stood yes).stands) published.3,
               ),
             ),

@@ -15,11 +15,14 @@ returns-in-Ok-put-clause-opens c =
     let on = ground_of c.args.setting.now in
     let uri = c.args.uri.now in
     let text = c.args.text.now in
-    let opened = c.in-Ok.ensures.opened ∙ ap (λ v. opened_as c.args.client on uri v text) (to_z-of_z w64 c.args.version c.ranges.version) in
+    let opened = c.in-Ok.ensures.opened ∙ ap (λ v. opened_as c.args.client on uri v text)
+    (to_z-of_z w64 c.args.version c.ranges.version) in
     inl (
       c.in-Ok.ensures.small,
-      c.in-Ok-put.ensures.put ∙ ap (λ d. put uri d (documents_of c.args.self.now)) (c.publish-reply.ensures.same ∙ opened),
-      published_as c.in-Ok.document c.args.client on uri c.args.version text (said_of c.publish-reply.result) opened c.in-Ok.ensures.in_step c.publish-reply.ensures.says,
+      c.in-Ok-put.ensures.put ∙ ap (λ d. put uri d (documents_of c.args.self.now))
+          (c.publish-reply.ensures.same ∙ opened),
+      published_as c.in-Ok.document c.args.client on uri c.args.version text
+          (said_of c.publish-reply.result) opened c.in-Ok.ensures.in_step c.publish-reply.ensures.says,
     )
 
 pub returns-in-Err-put-clause-opens : goal.returns-in-Err-put-clause-opens
@@ -30,4 +33,5 @@ pub returns-in-Err-put-clause-note : goal.returns-in-Err-put-clause-note
 returns-in-Err-put-clause-note c = no_memory_is_note
 
 pub returns-in-Err-clause-note : goal.returns-in-Err-clause-note
-returns-in-Err-clause-note c = c.open_lost.ensures.note (shows_note (refused_text c.in-Err.fault) (said_of c.told-why.result) c.told-why.ensures)
+returns-in-Err-clause-note c = c.open_lost.ensures.note
+    (shows_note (refused_text c.in-Err.fault) (said_of c.told-why.result) c.told-why.ensures)

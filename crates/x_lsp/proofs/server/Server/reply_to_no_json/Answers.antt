@@ -4,13 +4,16 @@ use Rattle.x_frames.specs.Answers.{to_misread, to_no_json}
 use Rattle.x_lsp.specs.States.{LosesAll, by_misread, by_no_json, state_of}
 use Rattle.x_lsp.specs.declared.server.Server.{Server}
 use Rattle.x_lsp.proofs.server.Server.reply_to_no_json.Goals as goal
-use Rattle.x_lsp.proofs.server.Server.reply_to_no_json.Goals.{in-Some+in_default-miss+in-String-1, in-Some+in_default-miss+in-Array-1}
-use Rattle.x_lsp.proofs.server.Server.reply_to_no_json.Goals.{in-Some+in_default-miss+in-Object-1, in-Some+in_default-miss+in-Null-1, in_default}
+use Rattle.x_lsp.proofs.server.Server.reply_to_no_json.Goals.{in-Some+in_default-miss+in-String-1}
+use Rattle.x_lsp.proofs.server.Server.reply_to_no_json.Goals.{in-Some+in_default-miss+in-Array-1}
+use Rattle.x_lsp.proofs.server.Server.reply_to_no_json.Goals.{in-Some+in_default-miss+in-Object-1}
+use Rattle.x_lsp.proofs.server.Server.reply_to_no_json.Goals.{in-Some+in_default-miss+in-Null-1, in_default}
 
 pub returns-in-Some-miss-clause-said : goal.returns-in-Some-miss-clause-said
 returns-in-Some-miss-clause-said c =
     let missed = c.in-Some-miss.ensures.misread in
-    to_misread (view c.in-Some.message) missed.noted c.requires c.in-Some.ensures missed.noted_is missed.is_note
+    to_misread (view c.in-Some.message) missed.noted c.requires c.in-Some.ensures missed.noted_is
+    missed.is_note
     missed.life_stays
 
 pub returns-in-Some-miss-clause-makes : goal.returns-in-Some-miss-clause-makes

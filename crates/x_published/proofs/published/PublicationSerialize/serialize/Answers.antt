@@ -29,7 +29,8 @@ returns g c =
                 w c.key-4.new.self,
                 w c.serialize.new.out,
                 c.in_ok-key-4.ensures,
-                list_sent data_of c.args.self.now.list.items (w c.key-4.new.self) (w c.serialize.new.out) c.in_ok-serialize.ensures,
+                list_sent data_of c.args.self.now.list.items (w c.key-4.new.self)
+                    (w c.serialize.new.out) c.in_ok-serialize.ensures,
                 (
                   w c.key-5.new.self,
                   w c.str-3.new.self,
