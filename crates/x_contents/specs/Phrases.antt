@@ -40,7 +40,8 @@ spelt_out bytes = flat_map spelt_byte bytes
 abbrev pub Spells : (before after more : List ℕ) → Type 0
 Spells before after more = spelt_out after ≡ spelt_out before ++ more
 
--- the byte is kept for itself, as each byte is of a text of JSON that is written without blanks
+-- the byte is no control character, so it is kept for itself, as is each byte of a text of JSON that is
+-- written without blanks
 abbrev pub is_own : ℕ → Bool
 is_own byte = nat_le 32 byte
 

@@ -30,8 +30,8 @@ use x_positions::Encoding;
 use x_session::Session;
 use x_text::Source;
 
-/// The result of a question about a whole document, whose text is shown, and compiled in the session: as
-/// JSON, written as it is found.
+/// The result of a question about a whole document, whose text is shown, and compiled in the session, as
+/// JSON. What is found of it is kept at once as it will be written, or with phrases.
 ///
 /// # Errors
 ///

@@ -1,4 +1,4 @@
-//! The results of questions, as they are written.
+//! The results of requests, as they are kept until they are written.
 
 ghost use Rattle.std.specs.Prelude.{◌≡◌, length};
 ghost use Rattle.x_streams.specs.Writing.{Adds};
@@ -7,7 +7,7 @@ ghost use Rattle.x_contents.specs.Kept.{found_text};
 use crate::phrased_text::PhrasedText;
 use x_text::{Pen, Sink};
 
-/// The result of a question, as JSON.
+/// The result of a request, as JSON.
 #[derive(Drop)]
 pub enum Found {
     /// It is kept as it is written.

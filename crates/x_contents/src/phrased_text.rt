@@ -62,7 +62,7 @@ impl PhrasedText {
         Ok(())
     }
 
-    /// Adds bytes of a text of JSON, of which none is a blank but within a string.
+    /// Adds bytes of a text of JSON, of which none is a control character.
     pub(crate) fn add(&mut self, bytes: &[u8]) -> Result<(), NoMemory>
         requires { list_all is_own bytes.now ≡ true }
         ensures { OnOk result (Spells self.old.bytes.items self.new.bytes.items bytes.now) }

@@ -119,14 +119,14 @@ IsEnumNumber number = (z : ℤ) × (number ≡ Some z) × (is_enum_number z ≡ 
 
 -- ---- unions
 
--- the class by which the rules go for what the item declares so
+-- the class by which the rules go for what the item declares
 abbrev pub class_seen : List (Option Definition) → List (Option Outcome) → ℕ → Definition → Declaration
     → Option Class
 class_seen definitions results item d declaration =
     declaration_class (sees definitions results item d)
     (knowns (sees definitions results item d) (enumerators d)) declaration
 
--- The item has the union, whose discriminant is declared so, and which the schema has at the place.
+-- The item has the union, whose discriminant is declared so, and the schema has that at the place.
 pub record IsUnionIn (definitions : List (Option Definition)) (s : Schema) (item : ℕ) (d : Definition)
     (union : BodyAt) (discriminant : Declaration) (place : ℕ) : Type 0 where
   pub item_is : slice_get definitions item ≡ Some (Some d)

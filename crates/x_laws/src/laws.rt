@@ -148,10 +148,11 @@ pub fn each_number()
         → IsEnumNumber (lookup (bytes_eq e.name) (numbers_of (definitions_of items))) }
 {}
 
-/// In a text without a fault, before which nothing is known, each discriminant has a class that one may have
-/// (`known`), which is what its form says: a number is outside of the class exactly where no word of the form
-/// stands for it (`classes`). So each case of a union has a word, by which the text's types are made
-/// (`words`), and no two have the same one (`once`): none is left out (RFC 4506, section 4.15).
+/// In a text without a fault, before which nothing is known, each discriminant has a class that a
+/// discriminant may have (`known`), which is what its form says, by the types of the whole text: a number is
+/// outside of the class exactly where no word of the form stands for it (`classes`). So each case of a union
+/// has a word (`words`), and no two have the same one (`once`): by `with_cases`, which puts them into the
+/// union's form, none is left out (RFC 4506, section 4.15).
 pub fn each_case()
     ensures known { (text : List ℕ) (items : List Item) → IsFaultless text items → (item : ℕ)
         (d : Definition) → slice_get (definitions_of items) item ≡ Some (Some d) → (union : BodyAt)
