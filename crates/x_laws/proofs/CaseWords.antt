@@ -669,7 +669,7 @@ case_number numbers form v w e = by (number_in numbers v) refl e
     by None n k = absurd cc
     by (Some z) n k = then z n (word_by form z) refl k
 
-some_is : {X : Type 0} (o : Option X) → IsSome o → (x : X) × (o ≡ Some x)
+pub some_is : {X : Type 0} (o : Option X) → IsSome o → (x : X) × (o ≡ Some x)
 some_is None h = absurd cc
 some_is (Some x) h = (x, refl)
 

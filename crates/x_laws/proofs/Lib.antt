@@ -3,6 +3,7 @@ pub mod AlikeProcedures
 pub mod AlikeSchemas
 pub mod AlikeValues
 pub mod BodyNames
+pub mod CaseArms
 pub mod CaseWords
 pub mod ClassFits
 pub mod EachNumber

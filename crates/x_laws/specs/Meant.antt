@@ -2,12 +2,14 @@
 -- what checking that item gives.
 use Rattle.std.specs.Prelude.{◌≡◌, ◌<◌, ◌^◌, ℕ, ℤ, pos, Bool, true, List, [], ◌∷◌, ◌++◌, length, map}
 use Rattle.std.specs.Prelude.{Option, Some, None}
-use Rattle.std.specs.Prelude.{slice_get, option_and_then}
+use Rattle.std.specs.Prelude.{nat_eq, slice_get, option_and_then}
 use Rattle.std.specs.List.{IsAmong}
+use Rattle.std.specs.Map.{lookup}
 use Rattle.x_lex.specs.declared.kind.Kind.{Kind}
 use Rattle.x_trees.specs.Declarations.{name_of}
 use Rattle.x_trees.specs.Mentions.{Mention, mentioned}
-use Rattle.x_trees.specs.Tree.{Declaration, Definition, Enumerator, Procedure}
+use Rattle.x_trees.specs.Tree as tree
+use Rattle.x_trees.specs.Tree.{Arms, Body, Declaration, Definition, Enumerator, Procedure, Value}
 use Rattle.x_trees.specs.declared.names.mention.Use.TheVariants as uses
 use Rattle.x_names.specs.Declarers.{IsFirstDeclarer}
 use Rattle.x_names.specs.declared.names.Declarer.{Declarer}
@@ -24,10 +26,15 @@ use Rattle.x_trees.specs.Seen.{names_of}
 use Rattle.x_compile.specs.Compile.{IsCompilation, Item, faults_of}
 use Rattle.x_compile.specs.Known.{nothing_known}
 use Rattle.x_schema.specs.ProceduresOf.{IsProcedure, Numbered, numbers_by, procedures_of}
-use Rattle.x_schema.specs.Schema.{Schema, procedure_at}
-use Rattle.x_schema.specs.SchemaOf.{Known, IsDeclared, numbers_of, signed_word, typedefs, with_word, word_by}
+use Rattle.x_schema.specs.Choices.{Choice}
+use Rattle.x_schema.specs.Schema.{Schema, form_at, procedure_at}
+use Rattle.x_schema.specs.SchemaOf.{Known, IsArmOf, IsDeclared, case_word, numbers_of, place_in, signed_word}
+use Rattle.x_schema.specs.SchemaOf.{typedefs, with_word, word_by}
 use Rattle.x_schema.specs.Sound.{is_legal}
+use Rattle.x_schema.specs.declared.form.Arm.{Arm}
+use Rattle.x_schema.specs.declared.form.Field.{Field}
 use Rattle.x_schema.specs.declared.form.Form.{Form}
+use Rattle.x_schema.specs.declared.form.Form.TheVariants as forms
 use Rattle.x_schema.specs.declared.procedure.CompactProcedure.{CompactProcedure}
 use Rattle.x_schema.specs.declared.procedure.ProcedureNumbers.{ProcedureNumbers}
 
@@ -138,6 +145,29 @@ pub record IsUnionIn (definitions : List (Option Definition)) (s : Schema) (item
 -- a word stands for the number, and is one that a discriminant of the form may have
 abbrev pub HasWord : Form → ℤ → Type 0
 HasWord form z = (w : ℕ) × (word_by form z ≡ Some w) × (is_legal form w ≡ true)
+
+-- the cases of arms, each with what is declared for it
+abbrev pub cases_with : Arms → List (Value × Declaration)
+cases_with tree.no_arm = []
+cases_with (tree.arm values d rest) = map (λ v. (v, d)) values ++ cases_with rest
+
+-- those of a body
+abbrev pub cases_declared : Body → List (Value × Declaration)
+cases_declared (tree.Union d arms other) = cases_with arms
+cases_declared body = []
+
+-- A union is at the place, and at the word of the case it has an arm, which is what is declared for it.
+pub record HasCase (s : Schema) (known : Known) (place : ℕ) (case : Value) (declaration : Declaration)
+    : Type 0 where
+  pub discriminant : Field
+  pub choice : Choice
+  pub form_is : form_at s place ≡ forms.Union discriminant choice
+  pub word : ℕ
+  pub word_is : case_word known.numbers (form_at s discriminant.form) case ≡ Some word
+  pub arm : Arm
+  pub found : lookup (nat_eq word) choice.cases ≡ Some arm
+  pub is_arm : IsArmOf s declaration arm
+  pub declared : IsDeclared s known declaration (place_in arm)
 
 -- ---- procedures
 

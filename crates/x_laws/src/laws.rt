@@ -18,7 +18,7 @@ ghost use Rattle.x_rules.specs.Views.{Class, Other};
 ghost use Rattle.x_rules.specs.declared.fault.RuleCode.TheVariants.{Unknown};
 ghost use Rattle.x_schema.specs.ProceduresOf.{Numbered, numbers_by, procedures_of};
 ghost use Rattle.x_schema.specs.Schema.{Schema, IsProcedureAt, form_at, id_named, named_type, procedure_at};
-ghost use Rattle.x_schema.specs.SchemaOf.{case_word, number_in, numbers_of, words_from};
+ghost use Rattle.x_schema.specs.SchemaOf.{IsBody, case_word, number_in, numbers_of, words_from};
 ghost use Rattle.x_schema.specs.Schemas.{IsSchemaOf};
 ghost use Rattle.x_schema.specs.declared.schema.NamedType.{NamedType};
 ghost use Rattle.x_schema.specs.declared.schema.TypeId.{TypeId};
@@ -40,10 +40,10 @@ ghost use Rattle.x_wire.specs.MessageTexts.{Told};
 ghost use Rattle.x_wire.specs.StreamTexts.{IsStreamText, IsTextOf};
 ghost use Rattle.x_opening.specs.Opening.{AreRead};
 ghost use Rattle.x_opening.specs.declared.known.KnownSource.{KnownSource};
-ghost use Rattle.x_laws.specs.Meant.{AreFaultless, HasProcedure, HasWord, IsArrayNumber, IsAsDeclared};
-ghost use Rattle.x_laws.specs.Meant.{IsEnumNumber, IsFaultless, IsFirstOfNumbers, IsSizeNumber, IsTypeName};
-ghost use Rattle.x_laws.specs.Meant.{IsUnionIn, IsUsedAsType, MeansType};
-ghost use Rattle.x_laws.specs.Meant.{class_seen, number_meant, sees, words_meant};
+ghost use Rattle.x_laws.specs.Meant.{AreFaultless, HasCase, HasProcedure, HasWord, IsArrayNumber};
+ghost use Rattle.x_laws.specs.Meant.{IsAsDeclared, IsEnumNumber, IsFaultless, IsFirstOfNumbers, IsSizeNumber};
+ghost use Rattle.x_laws.specs.Meant.{IsTypeName, IsUnionIn, IsUsedAsType, MeansType};
+ghost use Rattle.x_laws.specs.Meant.{cases_declared, class_seen, number_meant, sees, whole, words_meant};
 ghost use Rattle.x_laws.specs.Places.{IsShownAt, PlacedNode, ShowsSlice};
 ghost use Rattle.x_laws.specs.Showing.{ShowsAlike, CallsAlike};
 
@@ -151,8 +151,8 @@ pub fn each_number()
 /// In a text without a fault, before which nothing is known, each discriminant has a class that a
 /// discriminant may have (`known`), which is what its form says, by the types of the whole text: a number is
 /// outside of the class exactly where no word of the form stands for it (`classes`). So each case of a union
-/// has a word (`words`), and no two have the same one (`once`): by `with_cases`, which puts them into the
-/// union's form, none is left out (RFC 4506, section 4.15).
+/// has a word (`words`), no two have the same one (`once`), and at each case's word a schema's union has the
+/// arm that is declared for it (`arms`): none is left out (RFC 4506, section 4.15).
 pub fn each_case()
     ensures known { (text : List ℕ) (items : List Item) → IsFaultless text items → (item : ℕ)
         (d : Definition) → slice_get (definitions_of items) item ≡ Some (Some d) → (union : BodyAt)
@@ -180,6 +180,13 @@ pub fn each_case()
         → (other : ValueAt) → IsAmong front other
         → case_word (numbers_of (definitions_of items)) (form_at s place) other.value
         ≡ case_word (numbers_of (definitions_of items)) (form_at s place) here.value → ⊥ }
+    ensures arms { (text : List ℕ) (items : List Item) (s : Schema) → IsFaultless text items
+        → IsSchemaOf (definitions_of items) s → (item : ℕ) (d : Definition)
+        → slice_get (definitions_of items) item ≡ Some (Some d) → (union : BodyAt) → IsAmong (bodies d) union
+        → (place : ℕ) → IsBody s (whole (definitions_of items) s) union.body place
+        → (case : Value) (declaration : Declaration)
+        → IsAmong (cases_declared union.body) (case, declaration)
+        → HasCase s (whole (definitions_of items) s) place case declaration }
 {}
 
 /// In a text without a fault, before which nothing is known, each procedure has its three numbers, of 32 bits

@@ -1,3 +1,4 @@
+use Rattle.x_laws.proofs.CaseArms.{each_arm}
 use Rattle.x_laws.proofs.CaseWords.{each_class, each_once, each_switch, each_word}
 use Rattle.x_laws.proofs.NoFaults.{by_text}
 use Rattle.x_laws.proofs.laws.each_case.Goals as goal
@@ -13,3 +14,6 @@ returns-clause-words c = λ text items s. by_text (λ ds os are fine. each_word 
 
 pub returns-clause-once : goal.returns-clause-once
 returns-clause-once c = λ text items s. by_text (λ ds os are fine. each_once ds os s are fine) text items
+
+pub returns-clause-arms : goal.returns-clause-arms
+returns-clause-arms c = λ text items s. by_text (λ ds os are fine. each_arm ds os s are fine) text items
