@@ -28,6 +28,7 @@ use Rattle.x_schema.specs.Sound.{is_legal}
 use Rattle.x_schema.specs.declared.form.Form.{Form}
 use Rattle.x_schema.specs.declared.form.Form.TheVariants as forms
 use Rattle.x_laws.specs.Meant.{HasWord, words_meant}
+use Rattle.x_laws.proofs.TypeTables.{or_assoc, or_same}
 
 -- ---- a class and a form
 
@@ -297,15 +298,6 @@ or_false false = refl
 or_true : (a : Bool) → a || true ≡ true
 or_true true = refl
 or_true false = refl
-
-or_same : (a b : Bool) → (b ≡ true → a ≡ true) → a ≡ a || b
-or_same true b h = refl
-or_same false true h = h refl
-or_same false false h = refl
-
-or_assoc : (a b c : Bool) → (a || b) || c ≡ a || (b || c)
-or_assoc true b c = refl
-or_assoc false b c = refl
 
 same_nat : (m n : ℕ) → nat_eq m n ≡ true → m ≡ n
 same_nat m n h = grind (arith, nat_tests)

@@ -16,12 +16,12 @@ use Rattle.x_laws.proofs.TypeWords.{is_defined, or_false}
 abbrev pub is_there : Types → List ℕ → Bool
 is_there types n = is_some (lookup (bytes_eq n) types)
 
-or_same : (a b : Bool) → (b ≡ true → a ≡ true) → a ≡ a || b
+pub or_same : (a b : Bool) → (b ≡ true → a ≡ true) → a ≡ a || b
 or_same true b h = refl
 or_same false true h = h refl
 or_same false false h = refl
 
-or_assoc : (a b c : Bool) → (a || b) || c ≡ a || (b || c)
+pub or_assoc : (a b c : Bool) → (a || b) || c ≡ a || (b || c)
 or_assoc true b c = refl
 or_assoc false b c = refl
 
