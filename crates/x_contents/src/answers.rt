@@ -1,6 +1,6 @@
 //! What is answered to questions about a whole document.
 
-ghost use Rattle.std.specs.Prelude.{◌≡◌, true, IfErr, IfOk, IfSome, option_map};
+ghost use Rattle.std.specs.Prelude.{◌≡◌, true, Err, None, IfErr, IfOk, IfSome, option_map};
 ghost use Rattle.std.specs.Str.Lossy.{utf8_lossy};
 ghost use Rattle.serde_json.specs.Data.{array, string};
 ghost use Rattle.serde_json.specs.View.{items_of, view};
@@ -9,6 +9,7 @@ ghost use Rattle.x_compile.specs.Compile.{tokens_of};
 ghost use Rattle.x_session.specs.Session.{Compiles};
 ghost use Rattle.x_frames.specs.Answers.{IsText};
 ghost use Rattle.x_frames.specs.Lives.{is_of_question};
+ghost use Rattle.x_frames.specs.declared.answers.ErrorCode.TheVariants.{InvalidParams};
 ghost use Rattle.x_frames.specs.declared.method.DocumentQuestion.TheVariants.{Folds, Symbols, Text, Tokens};
 ghost use Rattle.x_contents.specs.DocumentTexts.{told_text};
 ghost use Rattle.x_contents.specs.Folds.{folds_in};
@@ -46,6 +47,8 @@ pub fn answer_about_document(
 ) -> Result<Found, ErrorCode>
     ensures value { IfOk result (λ found. IsText (found_text found)) }
     ensures code { IfErr result (λ code. is_of_question code ≡ true) }
+    ensures refused { result ≡ Err InvalidParams
+        → (question ≡ Text) × (wanted_in (option_map (λ p. view p.now) params.entry) ≡ None) }
     ensures symbols { question ≡ Symbols → IfOk result (λ found. Compiles session.now.known session.now.text
         (λ items. found_text found ≡ compact_text (array (items_of (symbols_in encoding shown.now items))))) }
     ensures folds { question ≡ Folds → IfOk result (λ found. Compiles session.now.known session.now.text
