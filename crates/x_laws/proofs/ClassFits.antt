@@ -76,25 +76,21 @@ negative_word n w e = by (nat_lt n (2 ^ 31)) refl e
     by true t k = (grind (arith, nat_tests), same_Some ((2 ^ 32 - 1) - n) w k)
     by false t k = absurd cc
 
--- a word stands for one number
-one_number : (y z : ℤ) (w : ℕ) → signed_word y ≡ Some w → signed_word z ≡ Some w → y ≡ z
-one_number (pos m) (pos n) w h k = ap pos ((pos_word m w h).1 ∙ sym (pos_word n w k).1)
-one_number (pos m) (negsuc n) w h k =
+apart : (m n w : ℕ) → signed_word (pos m) ≡ Some w → signed_word (negsuc n) ≡ Some w → ⊥
+apart m n w h k =
     let p = pos_word m w h in
     let q = negative_word n w k in
     let low = p.0 in
     let is = p.1 in
     let far = q.0 in
     let at = q.1 in
-    absurd (omega (arith, low, is, far, at))
-one_number (negsuc m) (pos n) w h k =
-    let p = pos_word n w k in
-    let q = negative_word m w h in
-    let low = p.0 in
-    let is = p.1 in
-    let far = q.0 in
-    let at = q.1 in
-    absurd (omega (arith, low, is, far, at))
+    omega (arith, low, is, far, at)
+
+-- a word stands for one number
+one_number : (y z : ℤ) (w : ℕ) → signed_word y ≡ Some w → signed_word z ≡ Some w → y ≡ z
+one_number (pos m) (pos n) w h k = ap pos ((pos_word m w h).1 ∙ sym (pos_word n w k).1)
+one_number (pos m) (negsuc n) w h k = absurd (apart m n w h k)
+one_number (negsuc m) (pos n) w h k = absurd (apart n m w k h)
 one_number (negsuc m) (negsuc n) w h k =
     let p = negative_word m w h in
     let q = negative_word n w k in
