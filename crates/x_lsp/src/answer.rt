@@ -1,6 +1,6 @@
 //! The answers to requests that are carried out.
 
-ghost use Rattle.std.specs.Prelude.{◌≡◌, ◌++◌, IfOk, codes, false, length};
+ghost use Rattle.std.specs.Prelude.{◌≡◌, ◌++◌, IfOk, codes, decimal, false, length};
 ghost use Rattle.serde_json.specs.View.{view};
 ghost use Rattle.serde_json.specs.Written.{compact_text, has_float};
 ghost use Rattle.x_streams.specs.Writing.{Adds};
@@ -50,9 +50,7 @@ impl Answer {
         ensures { Adds pen.old (S.state sink.old) pen.new (S.state sink.new)
             (framed (self.now.front.items ++ found_text self.now.found ++ codes "}")) }
     {
-        pen.add(b"Content-Length: ", sink);
-        add_number(self.count, pen, sink);
-        pen.add(b"\r\n\r\n", sink);
+        add_header(self.count, pen, sink);
         self.add_text(pen, sink);
     }
 
@@ -65,4 +63,15 @@ impl Answer {
         self.found.add_to(pen, sink);
         pen.add(b"}", sink);
     }
+}
+
+/// Adds the header of a text of so many bytes.
+#[tactic(auto, using(x_text::proofs::Adding::three))]
+pub(crate) fn add_header<S: Sink>(count: usize, pen: &mut Pen, sink: &mut S)
+    ensures { Adds pen.old (S.state sink.old) pen.new (S.state sink.new)
+        (codes "Content-Length: " ++ decimal count ++ codes "\r\n\r\n") }
+{
+    pen.add(b"Content-Length: ", sink);
+    add_number(count, pen, sink);
+    pen.add(b"\r\n\r\n", sink);
 }

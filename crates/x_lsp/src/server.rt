@@ -30,7 +30,7 @@ ghost use Rattle.x_lsp.specs.States.{IsMisread, IsPassedOver, IsQuestion, IsRefu
 ghost use Rattle.x_lsp.specs.States.{MakesOf};
 ghost use Rattle.x_lsp.specs.States.{fresh, is_running, state_of};
 
-use crate::answer::Answer;
+use crate::answer::{Answer, add_header};
 use crate::said::{Said, refused};
 use serde_json::Value;
 use std::alloc::{AllocError, Global};
@@ -45,7 +45,6 @@ use x_positions::Encoding;
 use x_published::{Client, client_in};
 use x_questions::{OpenText, answer_about_place};
 use x_text::{Pen, Sink};
-use x_value::add_number;
 
 /// How long a question is at most that can be cancelled, so that no other message is read twice that takes
 /// long to read.
@@ -412,12 +411,10 @@ fn is_question(name: &str) -> bool
 }
 
 /// Adds a text with its header.
-#[tactic(auto, using(x_text::proofs::Adding::four))]
+#[tactic(auto, using(x_text::proofs::Adding::two))]
 fn add_framed<S: Sink>(text: &[u8], pen: &mut Pen, sink: &mut S)
     ensures { Adds pen.old (S.state sink.old) pen.new (S.state sink.new) (framed text.now) }
 {
-    pen.add(b"Content-Length: ", sink);
-    add_number(text.len(), pen, sink);
-    pen.add(b"\r\n\r\n", sink);
+    add_header(text.len(), pen, sink);
     pen.add(text, sink);
 }
