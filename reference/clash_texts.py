@@ -42,7 +42,8 @@ OF_C = ("register for asm typeof new class and MAXPATHLEN stdin xdr_getlong clnt
 # Names of macros that stand for a number in C; those of other roles have them less often.
 NUMBERED = "unix linux SIGHUP SIGINT SIGQUIT AUTH_SYS NC_VISIBLE RPC_ANYSOCK MAX_MACHINE_NAME".split()
 MACROS = "constant", "program", "version", "procedure"
-BASIC = "int|unsigned|unsigned int|long|unsigned long|hyper|unsigned hyper|float|double|bool".split("|")
+# C has no `quadruple`.
+BASIC = [word.decode() for word in rpclang.BASIC_TYPES if word != b"quadruple"]
 SIZES = range(1, 5)
 
 

@@ -14,12 +14,12 @@ import sys
 
 sys.dont_write_bytecode = True
 
+import rpcedit
 import rpclang
 
 POOL = [b"a", b"b", b"c", b"d", b"e", b"f", b"s", b"u", b"t", b"A", b"B", b"C", b"D", b"LIMIT", b"_x", b"s_b", b"u_d",
         b"t_t", b"a_b", b"P", b"V", b"list", b"node", b"color", b"TRUE", b"FALSE", b"s_b_c", b"b_c"]
-BASIC = [b"int", b"unsigned", b"unsigned int", b"long", b"unsigned long", b"hyper", b"unsigned hyper", b"float",
-         b"double", b"quadruple", b"bool"]
+BASIC = list(rpclang.BASIC_TYPES)
 EDGES = [0, 1, 2, 3, 4, 8, 255, 400, 2 ** 31 - 2, 2 ** 31 - 1, 2 ** 31, 2 ** 32 - 1, 2 ** 32, 2 ** 63 - 1, 2 ** 63,
          2 ** 64 - 1, 2 ** 64, -1, -2, -2 ** 31, -2 ** 31 - 1, -2 ** 63, -2 ** 63 - 1, -2 ** 64, 10 ** 30]
 SPACES = [b" ", b" ", b" ", b" ", b"  ", b"\n", b"\t", b"\r\n", b"\v", b"\f", b"\n\n", b"\n ", b"/* note */", b"/**/",
@@ -617,8 +617,9 @@ def long_case(seed):
 
 def random_line(chance):
     """A script line that is nearly one of those that are answered."""
-    line = chance.choice([b"tokens", b"definitions", b"faults", b"explain", b"edit 0 1", b"edit 0 0 2f2A", b"edit 123456789 0",
-                          b"edit 1 2 0", b"edit", b"edit 0000000001 0", b"edit -1 0", b"edit 0x1 2", b"%tokens"])
+    line = chance.choice(rpcedit.QUESTIONS + [
+        b"edit 0 1", b"edit 0 0 2f2A", b"edit 123456789 0", b"edit 1 2 0", b"edit", b"edit 0000000001 0", b"edit -1 0",
+        b"edit 0x1 2", b"%tokens"])
     for _ in range(chance.choice([1, 1, 2])):
         at = chance.randrange(len(line) + 1)
         piece = chance.choice([b" ", b"\t", b"\r", b"\0", b"0", b"a", b"G", b"\xff", line[at:at + 1]])

@@ -19,6 +19,8 @@ GREATEST_TEXT = 16_777_216
 LONGEST_LINE = 33_600_000
 EDIT = re.compile(rb"edit ([0-9]{1,9}) ([0-9]{1,9})(?: ((?:[0-9a-fA-F]{2})+))?")
 DUMP = re.compile(rb"dump ([^ ]+)(?: ((?:[0-9a-fA-F]{2})+))?")
+# The lines that ask about the whole text.
+QUESTIONS = [b"tokens", b"definitions", b"faults", b"explain", b"clashes", *(kind.encode() for kind in texts.KINDS)]
 
 
 def base_of(path):

@@ -12,6 +12,9 @@ from collections import namedtuple
 KEPT_TEXTS, KEPT = 256, 20_000
 KEYWORDS = (b"bool case const default double enum float hyper int long opaque program quadruple string struct switch "
             b"typedef union unsigned version void").split()
+# The basic types, in the order by which random texts choose among them.
+BASIC_TYPES = (b"int", b"unsigned", b"unsigned int", b"long", b"unsigned long", b"hyper", b"unsigned hyper", b"float", b"double",
+               b"quadruple", b"bool")
 CODE_NAMES = {
     10: "Syntax", 11: "BadByte", 12: "BadNumber", 13: "OpenComment", 14: "Directive", 15: "Unfinished",
     20: "Duplicate", 21: "Unknown", 22: "LateName", 23: "NotType", 24: "NotConst", 25: "Range", 26: "BadSize",

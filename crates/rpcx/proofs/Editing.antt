@@ -7,7 +7,7 @@ use Rattle.x_text.specs.declared.text.fault.TextFault.{TextFault}
 use Rattle.x_text.specs.declared.text.fault.TextFault.TheVariants as faults
 use Rattle.x_text.specs.declared.text.source.TheConstants.{MAX_TEXT}
 use Rattle.x_lines.specs.Lines.{script_lines}
-use Rattle.x_script.specs.Script.{HasRun, Runs}
+use Rattle.x_script.specs.Script.{HasRun, Runs, script_run}
 use Rattle.x_streams.specs.Engines.{is_refused, NamesCause}
 use Rattle.x_streams.specs.declared.outcome.Outcome.{Outcome}
 use Rattle.x_streams.specs.declared.outcome.EngineFault.{EngineFault}
@@ -29,14 +29,15 @@ one_status false true e = absurd (cc)
 one_status false false e = refl
 
 -- a run without a fault answers its script
-pub answers_all : (tap : Option (List ℕ)) (left : Option (List ℕ)) (old new : Situation) (before after : Stream)
+pub answers_all : (tap : Option (List ℕ)) (left : Option (List ℕ)) (old new : Situation)
+    (before after : Stream)
     (outcome : Outcome) (status : Status) → status ≡ status_of (is_refused outcome)
-    → MatchOption tap (Unit {0}) (λ script. Runs script left old new before after (Ok outcome))
+    → MatchOption tap (Unit {0}) (λ script. Runs script left (script_run old new before after) (Ok outcome))
     → MatchOption tap (Unit {0}) (λ script. Answers script old before after status)
 answers_all None left old new before after outcome status is run = tt
 answers_all (Some script) left old new before after outcome status is run = λ refused e. (
   new,
-  subst (λ r. HasRun (script_lines script) old new before after r)
+  subst (λ r. HasRun (script_lines script) (script_run old new before after) r)
       (one_status (is_refused outcome) refused (sym is ∙ e)) run,
 )
 
@@ -46,7 +47,14 @@ pub found_is : (how : Opening) (file text : List ℕ) (places : KnownPlaces) (t 
     → t.session.text ≡ text
     → found_over how file places t ≡ found_by how file places text
 found_is how file text places t base files from own = λ i. record {
-  how = record { file = file; base = base i; files = files i; from = from i; places = places; is_plain = how.known.now.is_plain };
+  how = record {
+    file = file;
+    base = base i;
+    files = files i;
+    from = from i;
+    places = places;
+    is_plain = how.known.now.is_plain;
+  };
   text = own i;
 }
 
@@ -60,18 +68,21 @@ answers_by how None file text places old before after status have is h = tt
 answers_by how (Some script) file text places old before after status have is h = λ refused e. (
   places,
   have,
-  subst (λ s. (new : Situation) × HasRun (script_lines script) s new before after refused) is (h refused e),
+  subst (λ s. (new : Situation) × HasRun (script_lines script) (script_run s new before after) refused)
+      is (h refused e),
 )
 
 -- a fault ended a run
 pub ends_by : (tap tap' out out' : Stream) (old new : Situation) (fault : EngineFault)
     → NamesCause (Err fault) tap.failed tap'.failed out.failed out'.failed
-    → MatchOption tap.bytes (Unit {0}) (λ script. Runs script tap'.bytes old new out out' (Err fault))
+    → MatchOption tap.bytes (Unit {0})
+    (λ script. Runs script tap'.bytes (script_run old new out out') (Err fault))
     → EndsBy fault old (course tap tap' out out')
 ends_by tap tap' out out' old new fault cause run = record { cause = cause; run = go tap.bytes run }
   where
     go : (at : Option (List ℕ))
-        → MatchOption at (Unit {0}) (λ script. Runs script tap'.bytes old new out out' (Err fault))
+        → MatchOption at (Unit {0})
+        (λ script. Runs script tap'.bytes (script_run old new out out') (Err fault))
         → MatchOption at (Unit {0}) (λ script. EndsEarly script tap'.bytes old out out' fault)
     go None h = h
     go (Some script) h = (new, h)

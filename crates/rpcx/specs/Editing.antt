@@ -7,7 +7,7 @@ use Rattle.x_streams.specs.declared.outcome.EngineFault.{EngineFault}
 use Rattle.x_explain.specs.KnownFiles.{KnownPlaces, no_places}
 use Rattle.x_prelude.specs.declared.followed.FollowedText.{FollowedText}
 use Rattle.x_lines.specs.Lines.{script_lines}
-use Rattle.x_script.specs.Script.{HasRun, Runs}
+use Rattle.x_script.specs.Script.{HasRun, Runs, script_run}
 use Rattle.x_script.specs.Situations.{Situation}
 use Rattle.x_args.specs.declared.status.Status.{Status}
 use Rattle.x_args.specs.declared.status.Status.TheVariants.{Done, Faulty}
@@ -58,19 +58,19 @@ Finds how file text P = (places : KnownPlaces) × HavePlaces no_places how.known
 -- the status says whether one was refused.
 abbrev pub Answers : (script : List ℕ) (old : Situation) (before after : Stream) (status : Status) → Type 0
 Answers script old before after status = (refused : Bool) → status ≡ status_of refused
-    → (new : Situation) × HasRun (script_lines script) old new before after refused
+    → (new : Situation) × HasRun (script_lines script) (script_run old new before after) refused
 
 -- the same over the text of a file
 abbrev pub AnswersBy : Opening → (script file text : List ℕ) → (before after : Stream) → Status → Type 0
 AnswersBy how script file text before after status = (refused : Bool) → status ≡ status_of refused
     → Finds how file text
-    (λ old. (new : Situation) × HasRun (script_lines script) old new before after refused)
+    (λ old. (new : Situation) × HasRun (script_lines script) (script_run old new before after) refused)
 
 -- a run that this fault ends: the sink has what the run of the script says of it
 abbrev pub EndsEarly : (script : List ℕ) (left : Option (List ℕ)) (old : Situation) (before after : Stream)
     → EngineFault → Type 0
 EndsEarly script left old before after fault =
-    (new : Situation) × Runs script left old new before after (Err fault)
+    (new : Situation) × Runs script left (script_run old new before after) (Err fault)
 
 -- This fault ends the run of a script: it names what has failed, and where the script is known the sink has
 -- what its run says of the fault.

@@ -15,6 +15,7 @@ types_more d n ns rest bodies left before one two three all is first second thir
     let here = declared_names n ++ typedef_names d n ++ body_names n bodies in
     let behind = type_names d rest (bodies_after n bodies) in
     ap (λ bs. three ++ type_names d rest bs) after
-    ∙ ap (λ l. l ++ behind) (then_two before one two three (declared_names n) (typedef_names d n) (body_names n bodies)
+    ∙ ap (λ l. l ++ behind) (then_two before one two three (declared_names n) (typedef_names d n)
+    (body_names n bodies)
     first second third)
     ∙ append_assoc before here behind ∙ sym (ap (λ l. before ++ type_names d l bodies) is) ∙ so

@@ -22,8 +22,8 @@ pub record Thing : Type 0 where
   pub item : ℕ
   pub given : Given
 
-abbrev pub place_of : Thing → Place
-place_of t = record { item = t.item; word = t.given.word }
+abbrev pub thing_place : Thing → Place
+thing_place t = record { item = t.item; word = t.given.word }
 
 -- ---- what meets what
 
@@ -51,7 +51,7 @@ abbrev pub has_name : List ℕ → (Sort → Bool) → Thing → Bool
 has_name name test t = bytes_eq name t.given.name && test t.given.sort
 
 abbrev pub first_of : (Sort → Bool) → List ℕ → List Thing → Option Place
-first_of test name things = option_map place_of (find (has_name name test) things)
+first_of test name things = option_map thing_place (find (has_name name test) things)
 
 -- The first of these things of the name that one of the sort meets: macros come first, and then what is at
 -- file scope. The preprocessor replaces the name of a macro everywhere. Members of different structs do not
@@ -111,7 +111,7 @@ rivals taken things t =
     ++ option_to_list (option_map OfText (met_by t.given.sort t.given.name things)))
 
 abbrev pub clash_with : Thing → Rival → Clash
-clash_with t rival = record { name = t.given.name; place = place_of t; rival = rival }
+clash_with t rival = record { name = t.given.name; place = thing_place t; rival = rival }
 
 abbrev pub clashes_of : (List ℕ → Option TakenAs) → List Thing → Thing → List Clash
 clashes_of taken things t = map (clash_with t) (rivals taken things t)

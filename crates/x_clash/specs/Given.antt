@@ -9,7 +9,7 @@ use Rattle.x_trees.specs.Declarations.{is_void}
 use Rattle.x_trees.specs.Names.{Declared, declared}
 use Rattle.x_trees.specs.declared.names.declared_name.NameKind.{NameKind}
 use Rattle.x_trees.specs.declared.names.declared_name.NameKind.TheVariants as kinds
-use Rattle.x_outline.specs.Bodies.{BodyAt, NameAt, Members, bodies, fields_of, procedures_of, versions_from}
+use Rattle.x_outline.specs.Bodies.{BodyAt, NameAt, Members, bodies, fields_of, procedure_lists, versions_from}
 use Rattle.x_pieces.specs.CTypes.{spelled}
 use Rattle.x_pieces.specs.Header.{are_void}
 use Rattle.x_pieces.specs.Procedures.{are_several, function_name, group_name}
@@ -175,5 +175,5 @@ abbrev pub names_given : tree.Definition → List Given
 names_given (tree.Const name value) = given name 1 (Macro (spelled value)) ∷ []
 names_given (tree.Program name versions number) =
     given name 1 (Macro number)
-    ∷ versions_names name (versions_from 3 versions).names (procedures_of 3 versions) versions
+    ∷ versions_names name (versions_from 3 versions).names (procedure_lists 3 versions) versions
 names_given d = type_names d (declared d) (bodies d)

@@ -26,7 +26,7 @@ pub struct Firsts<'d> {
 // A file of `specs/` that these name, names the structs above.
 impl<'d> Firsts<'d> {
     ghost use Rattle.std.specs.Prelude.{◌≡◌, ◌++◌, ◌∷◌, [], List, true};
-    ghost use Rattle.x_clash.specs.Clashes.{Thing, is_at_file_scope, place_of};
+    ghost use Rattle.x_clash.specs.Clashes.{Thing, is_at_file_scope, thing_place};
     ghost use Rattle.x_clash.specs.Firsts.{AreFirsts, macro_beside, macro_place, met_in, no_firsts};
     ghost use Rattle.x_clash.specs.Given.{Macro, Member};
     ghost use Rattle.x_clash.specs.Views.{view_sort};
@@ -82,8 +82,9 @@ impl<'d> Firsts<'d> {
 
     /// These, and behind them a thing of the sort.
     pub fn with(self, sort: &Sort<'d>, place: Place) -> Firsts<'d>
-        ensures { (things : List Thing) (t : Thing) → place_of t ≡ place → t.given.sort ≡ view_sort sort.now
-            → AreFirsts t.given.name things self.entry → AreFirsts t.given.name (things ++ t ∷ []) result }
+        ensures { (things : List Thing) (t : Thing) → thing_place t ≡ place
+            → t.given.sort ≡ view_sort sort.now → AreFirsts t.given.name things self.entry
+            → AreFirsts t.given.name (things ++ t ∷ []) result }
     {
         match sort {
             Sort::Macro(text) => self.with_macro(text, place),
@@ -93,7 +94,7 @@ impl<'d> Firsts<'d> {
     }
 
     fn with_macro(self, text: &'d [u8], place: Place) -> Firsts<'d>
-        ensures { (things : List Thing) (t : Thing) → place_of t ≡ place → t.given.sort ≡ Macro text.now
+        ensures { (things : List Thing) (t : Thing) → thing_place t ≡ place → t.given.sort ≡ Macro text.now
             → AreFirsts t.given.name things self.entry → AreFirsts t.given.name (things ++ t ∷ []) result }
     {
         match self.first_macro {
@@ -114,7 +115,7 @@ impl<'d> Firsts<'d> {
     }
 
     fn with_member(self, place: Place) -> Firsts<'d>
-        ensures { (things : List Thing) (t : Thing) → place_of t ≡ place → t.given.sort ≡ Member
+        ensures { (things : List Thing) (t : Thing) → thing_place t ≡ place → t.given.sort ≡ Member
             → AreFirsts t.given.name things self.entry → AreFirsts t.given.name (things ++ t ∷ []) result }
     {
         Firsts {
@@ -127,7 +128,7 @@ impl<'d> Firsts<'d> {
 
     /// With a thing at file scope.
     fn with_name(self, place: Place) -> Firsts<'d>
-        ensures { (things : List Thing) (t : Thing) → place_of t ≡ place
+        ensures { (things : List Thing) (t : Thing) → thing_place t ≡ place
             → is_at_file_scope t.given.sort ≡ true
             → AreFirsts t.given.name things self.entry → AreFirsts t.given.name (things ++ t ∷ []) result }
     {

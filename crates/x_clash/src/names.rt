@@ -3,7 +3,7 @@
 ghost use Rattle.std.specs.Prelude.{◌≡◌, ◌∷◌, [], ◌++◌, map, OnOk, IfOk};
 ghost use Rattle.x_trees.specs.View.{view_definition, view_value, view_version};
 ghost use Rattle.x_trees.specs.Spell.{IsShort};
-ghost use Rattle.x_outline.specs.Bodies.{members, procedures_of, versions_from};
+ghost use Rattle.x_outline.specs.Bodies.{members, procedure_lists, versions_from};
 ghost use Rattle.x_pieces.specs.CTypes.{spelled};
 ghost use Rattle.x_clash.specs.Given.{given, names_given, versions_names, Macro};
 ghost use Rattle.x_clash.specs.Views.{view_all};
@@ -67,11 +67,11 @@ fn add_program<'d>(
     versions: &'d [Version],
 ) -> Result<(), NoMemory>
     ensures { OnOk result (IsShort (view_definition program.now)
-        → members (view_definition program.now) ≡ procedures_of 3 (map view_version versions.now)
+        → members (view_definition program.now) ≡ procedure_lists 3 (map view_version versions.now)
         ++ versions_from 3 (map view_version versions.now) ∷ []
         → view_all list.new.items ≡ view_all list.old.items
         ++ versions_names name.now (versions_from 3 (map view_version versions.now)).names
-        (procedures_of 3 (map view_version versions.now)) (map view_version versions.now)) }
+        (procedure_lists 3 (map view_version versions.now)) (map view_version versions.now)) }
 {
     let members = members(alloc, program)?;
     match members.split_last() {

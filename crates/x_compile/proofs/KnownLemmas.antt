@@ -24,6 +24,8 @@ kept_as (items.OneFault code word body) = parsed_as body.value.parse
 kept_as (items.Faulty body) = parsed_as body.value.parse
 
 -- the definitions of known items are theirs
-pub definitions_known : (es : List (ItemEntry Content)) → known_definitions (known_text es) ≡ entry_definitions es
+pub definitions_known : (es : List (ItemEntry Content))
+    → known_definitions (known_text es) ≡ entry_definitions es
 definitions_known [] = refl
-definitions_known (e ∷ es) = let here = kept_as e.kept in let rest = definitions_known es in λ i. here i ∷ rest i
+definitions_known (e ∷ es) =
+    let here = kept_as e.kept in let rest = definitions_known es in λ i. here i ∷ rest i

@@ -1,5 +1,6 @@
 -- What tokens are, wherever they stand: items of tokens that look alike parse alike.
-use Rattle.std.proofs.Common.{◌≡◌, ℕ, ◌+◌, inl, inr, Bool, true, false, cond, List, [], ◌∷◌, ◌++◌, length, map, drop, refl, sym, ap, subst, ◌∙◌}
+use Rattle.std.proofs.Common.{◌≡◌, ℕ, ◌+◌, inl, inr, Bool, true, false, cond, List, [], ◌∷◌, ◌++◌, length}
+use Rattle.std.proofs.Common.{map, drop, refl, sym, ap, subst, ◌∙◌}
 use Rattle.std.specs.Prelude.{IsTrue, codes}
 use Rattle.std.specs.List.{filter, flat_map}
 use Rattle.std.proofs.lemmas.List.{length-map}
@@ -17,7 +18,8 @@ use Rattle.x_compile.specs.KeptView.{byte_count}
 abbrev pub look : Lexeme → Kind × List ℕ
 look t = (t.kind, t.text)
 
-map_cond : {X Y : Type 0} (f : X → Y) (b : Bool) (xs ys : List X) → map f (cond b xs ys) ≡ cond b (map f xs) (map f ys)
+map_cond : {X Y : Type 0} (f : X → Y) (b : Bool) (xs ys : List X)
+    → map f (cond b xs ys) ≡ cond b (map f xs) (map f ys)
 map_cond f true xs ys = refl
 map_cond f false xs ys = refl
 
@@ -32,7 +34,8 @@ unfolding words_by
 words_are [] = refl
 words_are (t ∷ ts) =
     let rest = words_are ts in
-    map_cond word_of (is_significant t.kind) (t ∷ filter (λ u. is_significant u.kind) ts) (filter (λ u. is_significant u.kind) ts)
+    map_cond word_of (is_significant t.kind) (t ∷ filter (λ u. is_significant u.kind) ts)
+    (filter (λ u. is_significant u.kind) ts)
     ∙ (λ i. cond (is_significant t.kind) (word_of t ∷ rest i) (rest i))
 
 pub words_alike : (xs ys : List Lexeme) → map look xs ≡ map look ys → words_of xs ≡ words_of ys
@@ -58,7 +61,8 @@ lines_by : List (Kind × List ℕ) → List ℕ
 lines_by [] = []
 lines_by (l ∷ ls) = cond (is_percent l.0) ((drop 1 l.1 ++ codes "\n") ++ lines_by ls) (lines_by ls)
 
-flat_cond : {X Y : Type 0} (f : X → List Y) (b : Bool) (x : X) (xs : List X) → flat_map f (cond b (x ∷ xs) xs) ≡ cond b (f x ++ flat_map f xs) (flat_map f xs)
+flat_cond : {X Y : Type 0} (f : X → List Y) (b : Bool) (x : X) (xs : List X)
+    → flat_map f (cond b (x ∷ xs) xs) ≡ cond b (f x ++ flat_map f xs) (flat_map f xs)
 flat_cond f true x xs = refl
 flat_cond f false x xs = refl
 
@@ -67,7 +71,8 @@ unfolding lines_by
 lines_are [] = refl
 lines_are (t ∷ ts) =
     let rest = lines_are ts in
-    flat_cond (λ (u : Lexeme). drop 1 u.text ++ codes "\n") (is_percent t.kind) t (filter (λ u. is_percent u.kind) ts)
+    flat_cond (λ (u : Lexeme). drop 1 u.text ++ codes "\n") (is_percent t.kind) t
+    (filter (λ u. is_percent u.kind) ts)
     ∙ (λ i. cond (is_percent t.kind) ((drop 1 t.text ++ codes "\n") ++ rest i) (rest i))
 
 pub lines_alike : (xs ys : List Lexeme) → map look xs ≡ map look ys → lines_of xs ≡ lines_of ys
@@ -85,12 +90,21 @@ record Parted (front : List Lexeme) (token : Lexeme) (rear ys : List Lexeme) : T
   token_is : look token ≡ look here
   rear_is : map look rear ≡ map look behind
 
-parted : (front : List Lexeme) (token : Lexeme) (rear ys : List Lexeme) → map look (front ++ token ∷ rear) ≡ map look ys → Parted front token rear ys
+parted : (front : List Lexeme) (token : Lexeme) (rear ys : List Lexeme)
+    → map look (front ++ token ∷ rear) ≡ map look ys → Parted front token rear ys
 parted [] token rear [] same = absurd (cc)
 parted [] token rear (y ∷ ys) same =
     let head : look token ≡ look y = cc in
     let tail : map look rear ≡ map look ys = cc in
-    record { before = []; here = y; behind = ys; parts = refl; front_is = refl; token_is = head; rear_is = tail }
+    record {
+      before = [];
+      here = y;
+      behind = ys;
+      parts = refl;
+      front_is = refl;
+      token_is = head;
+      rear_is = tail;
+    }
 parted (f ∷ front) token rear [] same = absurd (cc)
 parted (f ∷ front) token rear (y ∷ ys) same =
     let head : look f ≡ look y = cc in
@@ -109,10 +123,13 @@ parted (f ∷ front) token rear (y ∷ ys) same =
 pub many_alike : (xs ys : List Lexeme) → map look xs ≡ map look ys → length xs ≡ length ys
 many_alike xs ys same = sym (length-map xs look) ∙ ap length same ∙ length-map ys look
 
-with_alike : (xs ys : List Lexeme) (s t : Lexeme) → map look xs ≡ map look ys → look s ≡ look t → words_of xs ++ word_of s ∷ [] ≡ words_of ys ++ word_of t ∷ []
-with_alike xs ys s t same one = let words = words_alike xs ys same in λ i. words i ++ word_by (one i).0 (one i).1 ∷ []
+with_alike : (xs ys : List Lexeme) (s t : Lexeme) → map look xs ≡ map look ys → look s ≡ look t
+    → words_of xs ++ word_of s ∷ [] ≡ words_of ys ++ word_of t ∷ []
+with_alike xs ys s t same one =
+    let words = words_alike xs ys same in λ i. words i ++ word_by (one i).0 (one i).1 ∷ []
 
-stuck_alike : (xs ys : List Lexeme) (at : ℕ) (code : FaultCode) → map look xs ≡ map look ys → IsStuck xs at code → IsStuck ys at code
+stuck_alike : (xs ys : List Lexeme) (at : ℕ) (code : FaultCode) → map look xs ≡ map look ys
+    → IsStuck xs at code → IsStuck ys at code
 stuck_alike xs ys at code same h =
     let p = parted h.front h.token h.rear ys (sym (ap (map look) h.parts) ∙ same) in
     record {
@@ -123,7 +140,8 @@ stuck_alike xs ys at code same h =
       place = h.place ∙ many_alike h.front p.before p.front_is;
       is_word = subst (λ l. IsTrue (is_significant l.0)) p.token_is h.is_word;
       before = subst Begins (words_alike h.front p.before p.front_is) h.before;
-      here = λ begins. h.here (subst Begins (sym (with_alike h.front p.before h.token p.here p.front_is p.token_is)) begins);
+      here = λ begins. h.here
+          (subst Begins (sym (with_alike h.front p.before h.token p.here p.front_is p.token_is)) begins);
       by_kind = h.by_kind ∙ ap (λ l. code_of l.0) p.token_is;
     }
 
@@ -140,7 +158,8 @@ last_alike xs ys at same h =
       behind = sym (words_alike h.rear p.behind p.rear_is) ∙ h.behind;
     }
 
-unfinished_alike : (xs ys : List Lexeme) (at : ℕ) (code : FaultCode) → map look xs ≡ map look ys → IsUnfinished xs at code → IsUnfinished ys at code
+unfinished_alike : (xs ys : List Lexeme) (at : ℕ) (code : FaultCode) → map look xs ≡ map look ys
+    → IsUnfinished xs at code → IsUnfinished ys at code
 unfinished_alike xs ys at code same h =
     let words = words_alike xs ys same in
     record {

@@ -26,10 +26,10 @@ abbrev pub IsShortAt : Option Definition → Type 0
 IsShortAt definition = (d : Definition) → definition ≡ Some d → IsShort d
 
 -- what is counted once each of these definitions has been checked
-abbrev pub counted : Counts → List (Option Definition) → Counts
-counted counts [] = counts
-counted counts (None ∷ ds) = counted counts ds
-counted counts (Some d ∷ ds) = counted (record counts { checked = raised counts.checked 1 }) ds
+abbrev pub all_checked : Counts → List (Option Definition) → Counts
+all_checked counts [] = counts
+all_checked counts (None ∷ ds) = all_checked counts ds
+all_checked counts (Some d ∷ ds) = all_checked (record counts { checked = raised counts.checked 1 }) ds
 
 -- what an item sees of a name, by what is known before the text, by first declarers and by results
 abbrev pub view_by_first : KnownNames → (List ℕ → Option Declarer) → (ℕ → Option Outcome) → ℕ → List ℕ → View

@@ -10,7 +10,7 @@ use Rattle.x_rules.specs.Rules.{Ascends}
 use Rattle.x_rules.specs.declared.fault.WordFault.{WordFault}
 use Rattle.x_compile.specs.Compile.{places_from, rule_faults, start_of}
 use Rattle.x_compile.specs.KeptView.{IsMarked, byte_count, found_result, items_with, kept_found}
-use Rattle.x_compile.specs.ItemReading.{ItemReading, place_of, unread}
+use Rattle.x_compile.specs.ItemReading.{ItemReading, place_read, unread}
 use Rattle.x_compile.specs.declared.fault.FaultPlace.{FaultPlace}
 use Rattle.x_compile.specs.declared.fault.FaultCode.{FaultCode}
 use Rattle.x_compile.specs.declared.fault.FaultCode.TheVariants as codes
@@ -34,7 +34,7 @@ found_at item found = record { item = item; token = found.0.token; start = found
 
 -- a fault by the rules, at its place
 abbrev pub rule_at : ItemReading → WordFault → WordPlace × FaultCode
-rule_at r f = (place_of r f.word, codes.Rule f.code)
+rule_at r f = (place_read r f.word, codes.Rule f.code)
 
 -- the faults of an item that are left, at their places
 abbrev pub places_left : ItemReading → Verdict → List (WordPlace × FaultCode)

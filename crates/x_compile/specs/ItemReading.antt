@@ -25,5 +25,5 @@ abbrev pub unread : ItemReading → List Lexeme
 unread r = take r.left r.walk
 
 -- the place of a word that is the last one that was read, or was not read yet
-abbrev pub place_of : ItemReading → ℕ → WordPlace
-place_of r word = if word + 1 == r.words then r.last else word_place (unread r) r.read (word - r.words)
+abbrev pub place_read : ItemReading → ℕ → WordPlace
+place_read r word = if word + 1 == r.words then r.last else word_place (unread r) r.read (word - r.words)

@@ -14,7 +14,7 @@ ghost use Rattle.x_rules.specs.Results.{IsResult, result_at};
 ghost use Rattle.x_rules.specs.RustViews.{view_view};
 ghost use Rattle.x_trees.specs.Seen.{names_of};
 ghost use Rattle.x_compile.specs.Known.{known_names};
-ghost use Rattle.x_compile.specs.Checking.{AreChecked, IsShortAt, counted, kept_definitions};
+ghost use Rattle.x_compile.specs.Checking.{AreChecked, IsShortAt, all_checked, kept_definitions};
 ghost use Rattle.x_compile.specs.Checking.{sound_pieces, view_by_first};
 ghost use Rattle.x_compile.specs.KeptView.{found_pieces, found_result};
 ghost use Rattle.x_compile.specs.KeptView.{kept_definition, kept_found, renewed_pieces};
@@ -54,7 +54,7 @@ pub fn check_all(
         (λ checks. AreChecked (known_names known.now) (map (λ k. k.now) items.now) checks.results.items
         checks.faults) }
     ensures counted { IfOk result
-        (λ checks. meter.new ≡ counted meter.old (kept_definitions (map (λ k. k.now) items.now))) }
+        (λ checks. meter.new ≡ all_checked meter.old (kept_definitions (map (λ k. k.now) items.now))) }
 {
     let names = names_of(alloc, hash_key, items)?;
     check_items(alloc, items, &names, known, meter)
@@ -104,7 +104,7 @@ fn check_items(
         (λ checks. AreChecked (known_names known.now) (map (λ k. k.now) items.now) checks.results.items
         checks.faults) }
     ensures counted { IfOk result
-        (λ checks. meter.new ≡ counted meter.old (kept_definitions (map (λ k. k.now) items.now))) }
+        (λ checks. meter.new ≡ all_checked meter.old (kept_definitions (map (λ k. k.now) items.now))) }
 {
     let mut results = Vec::with_capacity(alloc, items.len())?;
     let mut faults: usize = 0;
@@ -157,7 +157,7 @@ fn check<'i>(
     ensures rendered { IfOk result (λ found. renewed_pieces (found_pieces (kept_found item.now)) found
         ≡ sound_pieces (kept_definition item.now) (found_result found)) }
     ensures counted { IfOk result
-        (λ found. meter.new ≡ counted meter.old (kept_definition item.now ∷ [])) }
+        (λ found. meter.new ≡ all_checked meter.old (kept_definition item.now ∷ [])) }
 {
     let Some(definition) = item.definition() else {
         return Ok(None);

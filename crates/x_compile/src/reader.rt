@@ -3,7 +3,7 @@
 ghost use Rattle.std.specs.Prelude.{◌≡◌, ◌+◌, ◌<◌, ◌≤◌, ℕ, [], false, length, take, IsTrue};
 ghost use Rattle.x_text.specs.declared.text.source.TheConstants.{MAX_TEXT};
 ghost use Rattle.x_compile.specs.Compile.{start_of};
-ghost use Rattle.x_compile.specs.ItemReading.{place_of, unread};
+ghost use Rattle.x_compile.specs.ItemReading.{place_read, unread};
 
 use std::marker::Model;
 use x_item::is_significant;
@@ -88,7 +88,8 @@ impl<'s> Reader<'s> {
     fn step(&mut self) -> bool
         ensures more { IsTrue result → self.new.left < self.old.left }
         ensures none { result ≡ false → (unread self.old ≡ []) × (self.new ≡ self.old) }
-        ensures same { (word : ℕ) → self.old.words ≤ word → place_of self.new word ≡ place_of self.old word }
+        ensures same { (word : ℕ) → self.old.words ≤ word
+            → place_read self.new word ≡ place_read self.old word }
         ensures words { self.new.words ≤ self.old.words + 1 }
     {
         if self.left == 0 {
@@ -112,8 +113,8 @@ impl<'s> Reader<'s> {
     /// The place of a word that is the last one that was read, or is not read yet.
     pub fn seek(&mut self, word: usize) -> WordPlace
         requires { self.old.words ≤ word + 1 }
-        ensures place { result ≡ place_of self.old word }
-        ensures same { (later : ℕ) → word ≤ later → place_of self.new later ≡ place_of self.old later }
+        ensures place { result ≡ place_read self.old word }
+        ensures same { (later : ℕ) → word ≤ later → place_read self.new later ≡ place_read self.old later }
         ensures words { self.new.words ≤ word + 1 }
     {
         while self.words <= word {

@@ -1,5 +1,7 @@
 -- Cutting tokens into items, token by token.
-use Rattle.std.proofs.Common.{◌≡◌, ℕ, ◌+◌, ◌-◌, ◌≤◌, Bool, true, false, cond, List, [], ◌∷◌, ◌++◌, length, count_by, refl, ap, sym, ◌∙◌, subst, append_assoc, arith, ◌⊎◌, inl, inr, ⊎_elim, true≢false}
+use Rattle.std.proofs.Common.{◌≡◌, ℕ, ◌+◌, ◌-◌, ◌≤◌, Bool, true, false, cond, List, [], ◌∷◌, ◌++◌, length}
+use Rattle.std.proofs.Common.{count_by, refl, ap, sym, ◌∙◌, subst, append_assoc, arith, ◌⊎◌, inl, inr, ⊎_elim}
+use Rattle.std.proofs.Common.{true≢false}
 use Rattle.std.specs.Str.{bytes_eq}
 use Rattle.std.proofs.lemmas.List.{append-nil}
 use Rattle.std.proofs.lemmas.List.Sums.{sum_by-append, count_by-le-length}
@@ -8,7 +10,8 @@ use Rattle.std.proofs.lemmas.Slice.Eq.{bytes_eq-Decides}
 use Rattle.x_lex.specs.declared.kind.Kind.{Kind}
 use Rattle.x_lex.specs.declared.kind.Kind.TheVariants as kinds
 use Rattle.x_lex.specs.Places.{Lexeme}
-use Rattle.x_cutting.specs.Items.{is_punct, is_open, is_close, depth, Ends, HasNoEnd, IsWhole, AreWhole, joined, AreItems}
+use Rattle.x_cutting.specs.Items.{is_punct, is_open, is_close, depth, Ends, HasNoEnd, IsWhole, AreWhole}
+use Rattle.x_cutting.specs.Items.{joined, AreItems}
 
 -- one mark of punctuation is no other
 no_other : (k : Kind) (t : List ℕ) → is_punct 123 k t ≡ true → is_punct 125 k t ≡ false
@@ -30,8 +33,10 @@ open_if_close t h = turned (is_open t) refl
 count_at : (b : Bool) → ℕ
 count_at b = cond b 1 0
 
-count_push : (p : Lexeme → Bool) (ts : List Lexeme) (t : Lexeme) (b : Bool) → p t ≡ b → count_by p (ts ++ t ∷ []) ≡ count_by p ts + cond b 1 0
-count_push p ts t b is = sum_by-append (λ x. cond (p x) 1 0) ts (t ∷ []) ∙ ap (λ (x : Bool). count_by p ts + (0 + cond x 1 0)) is ∙ omega arith
+count_push : (p : Lexeme → Bool) (ts : List Lexeme) (t : Lexeme) (b : Bool) → p t ≡ b
+    → count_by p (ts ++ t ∷ []) ≡ count_by p ts + cond b 1 0
+count_push p ts t b is = sum_by-append (λ x. cond (p x) 1 0) ts (t ∷ [])
+    ∙ ap (λ (x : Bool). count_by p ts + (0 + cond x 1 0)) is ∙ omega arith
 
 -- the depth one token on
 pub depth-open : (ts : List Lexeme) (t : Lexeme) → is_open t ≡ true → depth (ts ++ t ∷ []) ≡ depth ts + 1
@@ -40,8 +45,10 @@ depth-open [] t h =
     let closes : count_by is_close (t ∷ []) ≡ 0 = count_push is_close [] t false (close_if_open t h) in
     omega arith
 depth-open (x ∷ ts) t h =
-    let opens : count_by is_open (x ∷ ts ++ t ∷ []) ≡ count_by is_open (x ∷ ts) + 1 = count_push is_open (x ∷ ts) t true h in
-    let closes : count_by is_close (x ∷ ts ++ t ∷ []) ≡ count_by is_close (x ∷ ts) + 0 = count_push is_close (x ∷ ts) t false (close_if_open t h) in
+    let opens : count_by is_open (x ∷ ts ++ t ∷ []) ≡ count_by is_open (x ∷ ts) + 1 =
+    count_push is_open (x ∷ ts) t true h in
+    let closes : count_by is_close (x ∷ ts ++ t ∷ []) ≡ count_by is_close (x ∷ ts) + 0 =
+    count_push is_close (x ∷ ts) t false (close_if_open t h) in
     let rest : depth (ts ++ t ∷ []) ≡ depth ts + 1 = depth-open ts t h in
     omega arith
 
@@ -50,29 +57,37 @@ depth-close [] t h =
     let opens : count_by is_open (t ∷ []) ≡ 0 = count_push is_open [] t false (open_if_close t h) in
     omega arith
 depth-close (x ∷ ts) t h =
-    let opens : count_by is_open (x ∷ ts ++ t ∷ []) ≡ count_by is_open (x ∷ ts) + 0 = count_push is_open (x ∷ ts) t false (open_if_close t h) in
-    let closes : count_by is_close (x ∷ ts ++ t ∷ []) ≡ count_by is_close (x ∷ ts) + 1 = count_push is_close (x ∷ ts) t true h in
+    let opens : count_by is_open (x ∷ ts ++ t ∷ []) ≡ count_by is_open (x ∷ ts) + 0 =
+    count_push is_open (x ∷ ts) t false (open_if_close t h) in
+    let closes : count_by is_close (x ∷ ts ++ t ∷ []) ≡ count_by is_close (x ∷ ts) + 1 =
+    count_push is_close (x ∷ ts) t true h in
     let rest : depth (ts ++ t ∷ []) ≡ depth ts - 1 = depth-close ts t h in
     omega arith
 
-pub depth-other : (ts : List Lexeme) (t : Lexeme) → is_open t ≡ false → is_close t ≡ false → depth (ts ++ t ∷ []) ≡ depth ts
+pub depth-other : (ts : List Lexeme) (t : Lexeme) → is_open t ≡ false → is_close t ≡ false
+    → depth (ts ++ t ∷ []) ≡ depth ts
 depth-other [] t o h =
     let opens : count_by is_open (t ∷ []) ≡ 0 = count_push is_open [] t false o in
     omega arith
 depth-other (x ∷ ts) t o h =
-    let opens : count_by is_open (x ∷ ts ++ t ∷ []) ≡ count_by is_open (x ∷ ts) + 0 = count_push is_open (x ∷ ts) t false o in
-    let closes : count_by is_close (x ∷ ts ++ t ∷ []) ≡ count_by is_close (x ∷ ts) + 0 = count_push is_close (x ∷ ts) t false h in
+    let opens : count_by is_open (x ∷ ts ++ t ∷ []) ≡ count_by is_open (x ∷ ts) + 0 =
+    count_push is_open (x ∷ ts) t false o in
+    let closes : count_by is_close (x ∷ ts ++ t ∷ []) ≡ count_by is_close (x ∷ ts) + 0 =
+    count_push is_close (x ∷ ts) t false h in
     let rest : depth (ts ++ t ∷ []) ≡ depth ts = depth-other ts t o h in
     omega arith
 
 -- the same, of a number that is the depth
-pub deeper : (n : ℕ) (ts : List Lexeme) (t : Lexeme) → n ≡ depth ts → is_open t ≡ true → n + 1 ≡ depth (ts ++ t ∷ [])
+pub deeper : (n : ℕ) (ts : List Lexeme) (t : Lexeme) → n ≡ depth ts → is_open t ≡ true
+    → n + 1 ≡ depth (ts ++ t ∷ [])
 deeper n ts t is h = ap (λ x. x + 1) is ∙ sym (depth-open ts t h)
 
-pub shallower : (n : ℕ) (ts : List Lexeme) (t : Lexeme) → n ≡ depth ts → is_close t ≡ true → n - 1 ≡ depth (ts ++ t ∷ [])
+pub shallower : (n : ℕ) (ts : List Lexeme) (t : Lexeme) → n ≡ depth ts → is_close t ≡ true
+    → n - 1 ≡ depth (ts ++ t ∷ [])
 shallower n ts t is h = ap (λ x. x - 1) is ∙ sym (depth-close ts t h)
 
-pub as_deep : (n : ℕ) (ts : List Lexeme) (t : Lexeme) → n ≡ depth ts → is_open t ≡ false → is_close t ≡ false → n ≡ depth (ts ++ t ∷ [])
+pub as_deep : (n : ℕ) (ts : List Lexeme) (t : Lexeme) → n ≡ depth ts → is_open t ≡ false → is_close t ≡ false
+    → n ≡ depth (ts ++ t ∷ [])
 as_deep n ts t is o h = is ∙ sym (depth-other ts t o h)
 
 pub ruleset depths = (deeper, shallower, as_deep)
@@ -101,7 +116,9 @@ pub same_tail : {x y : Lexeme} {xs ys : List Lexeme} → x ∷ xs ≡ y ∷ ys �
 same_tail e = cc
 
 -- where a list that ends with t is cut: at t, or before
-cut_before : (part : List Lexeme) (t : Lexeme) (front : List Lexeme) (x : Lexeme) (rear : List Lexeme) → part ++ t ∷ [] ≡ front ++ x ∷ rear → ((front ≡ part) × (x ≡ t)) ⊎ ((behind : List Lexeme) × (part ≡ front ++ x ∷ behind))
+cut_before : (part : List Lexeme) (t : Lexeme) (front : List Lexeme) (x : Lexeme) (rear : List Lexeme)
+    → part ++ t ∷ [] ≡ front ++ x ∷ rear
+    → ((front ≡ part) × (x ≡ t)) ⊎ ((behind : List Lexeme) × (part ≡ front ++ x ∷ behind))
 cut_before [] t [] x rear e = inl (refl, sym (same_head e))
 cut_before [] t (y ∷ []) x rear e = cc
 cut_before [] t (y ∷ z ∷ front) x rear e = cc
@@ -112,7 +129,8 @@ cut_before (p ∷ part) t (y ∷ front) x rear e =
     (λ h. inr (h.0, same_cons (same_head e) h.1))
     (cut_before part t front x rear (same_tail e))
 
-pub no_end_on : (part : List Lexeme) (t : Lexeme) → HasNoEnd part → (Ends part t → ⊥) → HasNoEnd (part ++ t ∷ [])
+pub no_end_on : (part : List Lexeme) (t : Lexeme) → HasNoEnd part → (Ends part t → ⊥)
+    → HasNoEnd (part ++ t ∷ [])
 no_end_on part t none here = record {
   never = λ front x rear e ends.
       ⊎_elim
@@ -128,19 +146,23 @@ no_end_none = record { never = λ front x rear e ends. never front x rear e }
     never [] x rear e = cc
     never (y ∷ front) x rear e = cc
 
-pub whole_push : (whole : List (List Lexeme)) (item : List Lexeme) → AreWhole whole → IsWhole item → AreWhole (whole ++ item ∷ [])
+pub whole_push : (whole : List (List Lexeme)) (item : List Lexeme) → AreWhole whole → IsWhole item
+    → AreWhole (whole ++ item ∷ [])
 whole_push [] item each this = (this, tt)
 whole_push (x ∷ whole) item each this = (each.0, whole_push whole item each.1 this)
 
-pub joined_push : (whole : List (List Lexeme)) (item : List Lexeme) → joined (whole ++ item ∷ []) ≡ joined whole ++ item
-joined_push whole item = flat_map-append (λ (part : List Lexeme). part) whole (item ∷ []) ∙ ap (λ x. joined whole ++ x) (append-nil item)
+pub joined_push : (whole : List (List Lexeme)) (item : List Lexeme)
+    → joined (whole ++ item ∷ []) ≡ joined whole ++ item
+joined_push whole item = flat_map-append (λ (part : List Lexeme). part) whole (item ∷ [])
+    ∙ ap (λ x. joined whole ++ x) (append-nil item)
 
 -- before the first token
 pub cuts_none : Cuts [] [] []
 cuts_none = record { all = refl; each = tt; rest = no_end_none }
 
 -- a token that does not end the item
-pub cuts_on : (seen : List Lexeme) (whole : List (List Lexeme)) (part : List Lexeme) (t : Lexeme) → Cuts seen whole part → (Ends part t → ⊥) → Cuts (seen ++ t ∷ []) whole (part ++ t ∷ [])
+pub cuts_on : (seen : List Lexeme) (whole : List (List Lexeme)) (part : List Lexeme) (t : Lexeme)
+    → Cuts seen whole part → (Ends part t → ⊥) → Cuts (seen ++ t ∷ []) whole (part ++ t ∷ [])
 cuts_on seen whole part t h here = record {
   all = sym (append_assoc (joined whole) part (t ∷ [])) ∙ ap (λ x. x ++ t ∷ []) h.all;
   each = h.each;
@@ -148,17 +170,20 @@ cuts_on seen whole part t h here = record {
 }
 
 -- a token that ends the item
-pub cuts_end : (seen : List Lexeme) (whole : List (List Lexeme)) (part : List Lexeme) (t : Lexeme) → Cuts seen whole part → Ends part t → Cuts (seen ++ t ∷ []) (whole ++ (part ++ t ∷ []) ∷ []) []
+pub cuts_end : (seen : List Lexeme) (whole : List (List Lexeme)) (part : List Lexeme) (t : Lexeme)
+    → Cuts seen whole part → Ends part t → Cuts (seen ++ t ∷ []) (whole ++ (part ++ t ∷ []) ∷ []) []
 cuts_end seen whole part t h here = record {
   all =
       append-nil (joined (whole ++ (part ++ t ∷ []) ∷ [])) ∙ joined_push whole (part ++ t ∷ [])
       ∙ sym (append_assoc (joined whole) part (t ∷ [])) ∙ ap (λ x. x ++ t ∷ []) h.all;
-  each = whole_push whole (part ++ t ∷ []) h.each (record { front = part; token = t; parts = refl; ends = here; before = h.rest });
+  each = whole_push whole (part ++ t ∷ []) h.each
+      (record { front = part; token = t; parts = refl; ends = here; before = h.rest });
   rest = no_end_none;
 }
 
 -- behind the last token
-pub cuts_all : (tokens : List Lexeme) (whole : List (List Lexeme)) (part : List Lexeme) → Cuts tokens whole part → AreItems tokens (whole ++ part ∷ [])
+pub cuts_all : (tokens : List Lexeme) (whole : List (List Lexeme)) (part : List Lexeme)
+    → Cuts tokens whole part → AreItems tokens (whole ++ part ∷ [])
 cuts_all tokens whole part h = record {
   whole = whole;
   last = part;

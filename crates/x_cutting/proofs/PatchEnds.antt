@@ -1,5 +1,7 @@
 -- Where the fresh tokens of a patch start and end, in both texts.
-use Rattle.std.proofs.Common.{◌≡◌, ℕ, zero, suc, ◌+◌, ◌-◌, ◌≤◌, ◌<◌, ◌⊎◌, inl, inr, ⊎_elim, Bool, true, false, List, [], ◌∷◌, ◌++◌, length, take, drop, refl, ap, sym, subst, ◌∙◌, arith, append_assoc, length-append, length-drop, length-take-le}
+use Rattle.std.proofs.Common.{◌≡◌, ℕ, zero, suc, ◌+◌, ◌-◌, ◌≤◌, ◌<◌, ◌⊎◌, inl, inr, ⊎_elim, Bool, true, false}
+use Rattle.std.proofs.Common.{List, [], ◌∷◌, ◌++◌, length, take, drop, refl, ap, sym, subst, ◌∙◌, arith}
+use Rattle.std.proofs.Common.{append_assoc, length-append, length-drop, length-take-le}
 use Rattle.std.specs.Prelude.{◌||◌, nat_lt, nat_le}
 use Rattle.std.proofs.lemmas.Bool.{cases_lt, le-ltb, lt-leb, cond-true, cond-false, or_from}
 use Rattle.std.proofs.lemmas.List.{take-append-drop, take_at, drop_at, take-append-le}
@@ -15,33 +17,43 @@ use Rattle.x_lex.proofs.RelexLemmas.{fresh_front, kept_front, fresh_back, kept_b
 use Rattle.x_lex.proofs.RelexRun.{IsEdit, new_length}
 
 -- tokens have bytes
-grows_suc : (start : Bool) (rest : List ℕ) (ts : List (Kind × ℕ)) (i : ℕ) → Tiles start rest ts → i < length ts → end_of ts i < end_of ts (suc i)
+grows_suc : (start : Bool) (rest : List ℕ) (ts : List (Kind × ℕ)) (i : ℕ) → Tiles start rest ts
+    → i < length ts → end_of ts i < end_of ts (suc i)
 grows_suc start rest [] i h lt = absurd (omega arith)
-grows_suc start rest (t ∷ ts) zero h lt = let s = (token_spans t.0 start rest t.1 h.0).some in omega (arith, s)
-grows_suc start rest (t ∷ ts) (suc i) h lt = let r = grows_suc (starts_after rest t.1) (drop t.1 rest) ts i h.1 (omega arith) in omega (arith, r)
+grows_suc start rest (t ∷ ts) zero h lt =
+    let s = (token_spans t.0 start rest t.1 h.0).some in omega (arith, s)
+grows_suc start rest (t ∷ ts) (suc i) h lt =
+    let r = grows_suc (starts_after rest t.1) (drop t.1 rest) ts i h.1 (omega arith) in omega (arith, r)
 
-pub end_strict : (text : List ℕ) (ts : List (Kind × ℕ)) (i j : ℕ) → AreTokens text ts → i < j → j ≤ length ts → end_of ts i < end_of ts j
+pub end_strict : (text : List ℕ) (ts : List (Kind × ℕ)) (i j : ℕ) → AreTokens text ts → i < j → j ≤ length ts
+    → end_of ts i < end_of ts j
 end_strict text ts i j tiles lt le =
     let g = grows_suc true text ts i tiles (omega arith) in
     let m = end_mono ts (suc i) j (omega arith) in
     omega (arith, g, m)
 
 -- so their ends tell them apart
-pub end_order : (text : List ℕ) (ts : List (Kind × ℕ)) (i j : ℕ) → AreTokens text ts → i ≤ length ts → end_of ts i < end_of ts j → i < j
-end_order text ts i j tiles le lt = ⊎_elim (λ l. l) (λ ge. let m = end_mono ts j i ge in absurd (omega (arith, m))) (cases_lt i j)
+pub end_order : (text : List ℕ) (ts : List (Kind × ℕ)) (i j : ℕ) → AreTokens text ts → i ≤ length ts
+    → end_of ts i < end_of ts j → i < j
+end_order text ts i j tiles le lt =
+    ⊎_elim (λ l. l) (λ ge. let m = end_mono ts j i ge in absurd (omega (arith, m))) (cases_lt i j)
 
-pub end_same : (text : List ℕ) (ts : List (Kind × ℕ)) (i j : ℕ) → AreTokens text ts → i ≤ length ts → j ≤ length ts → end_of ts i ≡ end_of ts j → i ≡ j
+pub end_same : (text : List ℕ) (ts : List (Kind × ℕ)) (i j : ℕ) → AreTokens text ts → i ≤ length ts
+    → j ≤ length ts → end_of ts i ≡ end_of ts j → i ≡ j
 end_same text ts i j tiles le ge e =
     ⊎_elim
     (λ lt. let s = end_strict text ts i j tiles lt ge in absurd (omega (arith, s)))
-    (λ a. ⊎_elim (λ lt. let s = end_strict text ts j i tiles lt le in absurd (omega (arith, s))) (λ b. let r : i ≡ j = omega arith in r) (cases_lt j i))
+    (λ a. ⊎_elim (λ lt. let s = end_strict text ts j i tiles lt le in absurd (omega (arith, s)))
+    (λ b. let r : i ≡ j = omega arith in r) (cases_lt j i))
     (cases_lt i j)
 
 take_sum : (i j : ℕ) (ts : List (Kind × ℕ)) → end_of ts (i + j) ≡ end_of ts i + end_of (drop i ts) j
 take_sum zero j ts = let e : 0 + j ≡ j = omega arith in let f = ap (end_of ts) e in omega (arith, f)
 take_sum (suc i) zero [] = let e : suc i + 0 ≡ suc (i + 0) = omega arith in ap (end_of []) e
 take_sum (suc i) (suc j) [] = let e : suc i + suc j ≡ suc (i + suc j) = omega arith in ap (end_of []) e
-take_sum (suc i) j (t ∷ ts) = let e : suc i + j ≡ suc (i + j) = omega arith in let f = ap (end_of (t ∷ ts)) e in let r = take_sum i j ts in omega (arith, f, r)
+take_sum (suc i) j (t ∷ ts) =
+    let e : suc i + j ≡ suc (i + j) = omega arith in let f = ap (end_of (t ∷ ts)) e in
+    let r = take_sum i j ts in omega (arith, f, r)
 
 -- the place behind i tokens more
 pub end_sum : (ts : List (Kind × ℕ)) (i j : ℕ) → end_of ts (i + j) ≡ end_of ts i + end_of (drop i ts) j
@@ -56,17 +68,34 @@ record Rear (a q at : ℕ) (ys : List (Kind × ℕ)) : Type 0 where
   after : gone < length ys → q ≤ at + end_of ys gone
 
 rear_of : (a q at : ℕ) (ys : List (Kind × ℕ)) → (0 < length ys → a ≤ at + end_of ys 1) → Rear a q at ys
-rear_of a q at [] late = record { gone = 0; within = omega arith; left = refl; before = λ i lt. absurd (omega arith); after = λ lt. absurd (omega arith) }
-rear_of a q at (y ∷ ys) late = by (cases_lt at q) (rear_of a q (at + y.1) ys (λ some. let l = late (omega arith) in omega (arith, l)))
+rear_of a q at [] late =
+    record {
+      gone = 0;
+      within = omega arith;
+      left = refl;
+      before = λ i lt. absurd (omega arith);
+      after = λ lt. absurd (omega arith);
+    }
+rear_of a q at (y ∷ ys) late =
+    by (cases_lt at q) (rear_of a q (at + y.1) ys (λ some. let l = late (omega arith) in omega (arith, l)))
   where
     by : (at < q) ⊎ (q ≤ at) → Rear a q (at + y.1) ys → Rear a q at (y ∷ ys)
-    by (inr le) r = record { gone = 0; within = omega arith; left = kept_back a q at (y ∷ ys) le; before = λ i lt. absurd (omega arith); after = λ lt. omega arith }
+    by (inr le) r =
+        record {
+          gone = 0;
+          within = omega arith;
+          left = kept_back a q at (y ∷ ys) le;
+          before = λ i lt. absurd (omega arith);
+          after = λ lt. omega arith;
+        }
     by (inl lt) r = record {
       gone = suc r.gone;
       within = let w = r.within in omega (arith, w);
       left =
           let l : a ≤ at + (y.1 + 0) = late (omega arith) in
-          cond-false (nat_lt (at + y.1) a || nat_le q at) (y ∷ kept_from a q (at + y.1) ys) (kept_from a q (at + y.1) ys) (or_from (nat_lt (at + y.1) a) (nat_le q at) (le-ltb (at + y.1) a (omega (arith, l))) (lt-leb q at lt)) ∙ r.left;
+          cond-false (nat_lt (at + y.1) a || nat_le q at) (y ∷ kept_from a q (at + y.1) ys)
+          (kept_from a q (at + y.1) ys) (or_from (nat_lt (at + y.1) a) (nat_le q at)
+          (le-ltb (at + y.1) a (omega (arith, l))) (lt-leb q at lt)) ∙ r.left;
       before = below;
       after = λ more. let a = r.after (omega arith) in omega (arith, a);
     }
@@ -76,15 +105,25 @@ rear_of a q at (y ∷ ys) late = by (cases_lt at q) (rear_of a q (at + y.1) ys (
         below (suc i) l = let b = r.before i (omega arith) in omega (arith, b)
 
 -- no more tokens are fresh than those before q
-fresh_few : (a q at : ℕ) (xs ys : List (Kind × ℕ)) → q ≤ at + span xs → length (fresh_from a q at (xs ++ ys)) ≤ length xs
+fresh_few : (a q at : ℕ) (xs ys : List (Kind × ℕ)) → q ≤ at + span xs
+    → length (fresh_from a q at (xs ++ ys)) ≤ length xs
 fresh_few a q at [] ys le = let e = ap length (fresh_back a q at ys (omega arith)) in omega (arith, e)
-fresh_few a q at (x ∷ xs) ys le = by (nat_lt (at + x.1) a || nat_le q at) refl (fresh_few a q (at + x.1) xs ys (omega arith))
+fresh_few a q at (x ∷ xs) ys le =
+    by (nat_lt (at + x.1) a || nat_le q at) refl (fresh_few a q (at + x.1) xs ys (omega arith))
   where
-    by : (b : Bool) → (nat_lt (at + x.1) a || nat_le q at) ≡ b → length (fresh_from a q (at + x.1) (xs ++ ys)) ≤ length xs → length (fresh_from a q at (x ∷ (xs ++ ys))) ≤ suc (length xs)
-    by true e r = let c = ap length (cond-true (nat_lt (at + x.1) a || nat_le q at) (fresh_from a q (at + x.1) (xs ++ ys)) (x ∷ fresh_from a q (at + x.1) (xs ++ ys)) e) in omega (arith, c, r)
-    by false e r = let c = ap length (cond-false (nat_lt (at + x.1) a || nat_le q at) (fresh_from a q (at + x.1) (xs ++ ys)) (x ∷ fresh_from a q (at + x.1) (xs ++ ys)) e) in omega (arith, c, r)
+    by : (b : Bool) → (nat_lt (at + x.1) a || nat_le q at) ≡ b → length (fresh_from a q (at + x.1) (xs ++ ys))
+        ≤ length xs → length (fresh_from a q at (x ∷ (xs ++ ys))) ≤ suc (length xs)
+    by true e r =
+        let c = ap length (cond-true (nat_lt (at + x.1) a || nat_le q at)
+        (fresh_from a q (at + x.1) (xs ++ ys)) (x ∷ fresh_from a q (at + x.1) (xs ++ ys)) e) in
+        omega (arith, c, r)
+    by false e r =
+        let c = ap length (cond-false (nat_lt (at + x.1) a || nat_le q at)
+        (fresh_from a q (at + x.1) (xs ++ ys)) (x ∷ fresh_from a q (at + x.1) (xs ++ ys)) e) in
+        omega (arith, c, r)
 
-module _ (change : Change) (new : List ℕ) (edit : IsEdit change new) (ts : List (Kind × ℕ)) (tiles : AreTokens change.old ts) (patch : TokenPatch) (is : IsPatch change ts patch) where
+module _ (change : Change) (new : List ℕ) (edit : IsEdit change new) (ts : List (Kind × ℕ))
+    (tiles : AreTokens change.old ts) (patch : TokenPatch) (is : IsPatch change ts patch) where
   abbrev us : List (Kind × ℕ)
   us = patched ts patch
 
@@ -100,7 +139,8 @@ module _ (change : Change) (new : List ℕ) (edit : IsEdit change new) (ts : Lis
   meets : Agrees change ts us is.place ⊎ (is.place ≡ length new)
   meets = by is.meeting.meets
     where
-      by : Agrees change ts us is.place ⊎ (is.place ≡ length (edited_by change)) → Agrees change ts us is.place ⊎ (is.place ≡ length new)
+      by : Agrees change ts us is.place ⊎ (is.place ≡ length (edited_by change))
+          → Agrees change ts us is.place ⊎ (is.place ≡ length new)
       by (inl h) = inl h
       by (inr e) = inr (e ∙ ap length (sym edit.result))
 
@@ -123,8 +163,10 @@ module _ (change : Change) (new : List ℕ) (edit : IsEdit change new) (ts : Lis
       let q = old_place change is.place in
       let k : kept_from change.start q 0 ts ≡ take patch.at ts ++ drop rear.gone (drop patch.at ts) =
       ap (kept_from change.start q 0) (sym (take-append-drop patch.at ts))
-      ∙ kept_front change.start q 0 (take patch.at ts) (drop patch.at ts) (λ some. let f = front_length in let l = is.front.before (omega (arith, some, f)) in omega (arith, l))
-      ∙ ap (λ n. take patch.at ts ++ kept_from change.start q n (drop patch.at ts)) (let z : 0 + span (take patch.at ts) ≡ end_of ts patch.at = omega arith in z)
+      ∙ kept_front change.start q 0 (take patch.at ts) (drop patch.at ts) (λ some. let f = front_length in
+      let l = is.front.before (omega (arith, some, f)) in omega (arith, l))
+      ∙ ap (λ n. take patch.at ts ++ kept_from change.start q n (drop patch.at ts))
+      (let z : 0 + span (take patch.at ts) ≡ end_of ts patch.at = omega arith in z)
       ∙ ap (λ l. take patch.at ts ++ l) rear.left in
       let l = ap length (is.kept_are ∙ k) in
       let m = length-append (take patch.at ts) (drop (patch.at + patch.removed) ts) in
@@ -182,11 +224,16 @@ module _ (change : Change) (new : List ℕ) (edit : IsEdit change new) (ts : Lis
       let same = ap (end_of (drop patch.at ts)) g in
       let m = end_strict change.old ts (patch.at + patch.removed) h.0 tiles lt w in
       omega (arith, r, s, same, m, ends) in
-      let index : patch.at + patch.removed ≡ h.0 = ⊎_elim (λ lt. absurd (not_more lt)) (λ le. ⊎_elim (λ lt. absurd (not_less lt)) (λ ge. let r : patch.at + patch.removed ≡ h.0 = omega arith in r) (cases_lt h.0 (patch.at + patch.removed))) (cases_lt (patch.at + patch.removed) h.0) in
+      let index : patch.at + patch.removed ≡ h.0 =
+      ⊎_elim (λ lt. absurd (not_more lt))
+      (λ le. ⊎_elim (λ lt. absurd (not_less lt))
+      (λ ge. let r : patch.at + patch.removed ≡ h.0 = omega arith in r)
+      (cases_lt h.0 (patch.at + patch.removed))) (cases_lt (patch.at + patch.removed) h.0) in
       ap (end_of ts) index ∙ ends
 
   front_and_fresh : length (take patch.at ts ++ patch.fresh) ≡ patch.at + length patch.fresh
-  front_and_fresh = length-append (take patch.at ts) patch.fresh ∙ ap (λ n. n + length patch.fresh) front_length
+  front_and_fresh = length-append (take patch.at ts) patch.fresh
+      ∙ ap (λ n. n + length patch.fresh) front_length
 
   -- what is left behind the fresh tokens
   pub new_rest : drop (patch.at + length patch.fresh) us ≡ rest
@@ -207,19 +254,22 @@ module _ (change : Change) (new : List ℕ) (edit : IsEdit change new) (ts : Lis
       let u = ap span (take-append-drop (patch.at + patch.removed) ts) in
       let v = span-append (take (patch.at + patch.removed) ts) rest in
       let x = ap span (take-append-drop (patch.at + length patch.fresh) us) in
-      let y = span-append (take (patch.at + length patch.fresh) us) (drop (patch.at + length patch.fresh) us) in
+      let y = span-append (take (patch.at + length patch.fresh) us)
+      (drop (patch.at + length patch.fresh) us) in
       let z = ap span new_rest in
       let p = place_le in
       omega (arith, n, s, t, e, late, o, w, u, v, x, y, z, p)
     where
       place_le : is.place ≤ length new
       place_le = ⊎_elim
-          (λ h. let i = h.in_new.ends in let l = end_le_span us h.in_new.index in let t = span_tiles true new us new_tokens in omega (arith, i, l, t))
+          (λ h. let i = h.in_new.ends in let l = end_le_span us h.in_new.index in
+          let t = span_tiles true new us new_tokens in omega (arith, i, l, t))
           (λ e. omega (arith, e))
           meets
 
   -- the boundaries from there on
-  pub shifted : (i : ℕ) → old_place change (end_of us (patch.at + length patch.fresh + i)) ≡ end_of ts (patch.at + patch.removed + i)
+  pub shifted : (i : ℕ) → old_place change (end_of us (patch.at + length patch.fresh + i))
+      ≡ end_of ts (patch.at + patch.removed + i)
   shifted i =
       let s = end_sum us (patch.at + length patch.fresh) i in
       let t = end_sum ts (patch.at + patch.removed) i in
@@ -233,11 +283,14 @@ module _ (change : Change) (new : List ℕ) (edit : IsEdit change new) (ts : Lis
   pub front_end : (i : ℕ) → i ≤ patch.at → end_of us i ≡ end_of ts i
   front_end i le =
       let f = front_length in
-      ap span (take-append-le i (take patch.at ts) (patch.fresh ++ rest) (omega (arith, f))) ∙ sym (ap span (take-append-le i (take patch.at ts) (drop patch.at ts) (omega (arith, f)))) ∙ ap (λ l. end_of l i) (take-append-drop patch.at ts)
+      ap span (take-append-le i (take patch.at ts) (patch.fresh ++ rest) (omega (arith, f)))
+      ∙ sym (ap span (take-append-le i (take patch.at ts) (drop patch.at ts) (omega (arith, f))))
+      ∙ ap (λ l. end_of l i) (take-append-drop patch.at ts)
 
   -- a fresh token doesn't end before a
   pub late_new : patch.at < length us → change.start ≤ end_of us (patch.at + 1)
-  late_new some = ⊎_elim (λ lt. absurd (not_before patch.fresh refl lt)) (λ le. le) (cases_lt (end_of us (patch.at + 1)) change.start)
+  late_new some = ⊎_elim (λ lt. absurd (not_before patch.fresh refl lt)) (λ le. le)
+      (cases_lt (end_of us (patch.at + 1)) change.start)
     where
       not_before : (news : List (Kind × ℕ)) → patch.fresh ≡ news → end_of us (patch.at + 1) < change.start → ⊥
       not_before [] e lt =
@@ -248,20 +301,31 @@ module _ (change : Change) (new : List ℕ) (edit : IsEdit change new) (ts : Lis
           let late = meeting_late in
           omega (arith, n, l, z, m, late, lt)
       not_before (f ∷ fs) e lt =
-          let here : us ≡ (take patch.at ts ++ f ∷ []) ++ (fs ++ rest) = ap (λ l. take patch.at ts ++ (l ++ rest)) e ∙ sym (append_assoc (take patch.at ts) (f ∷ []) (fs ++ rest)) in
-          let one : length (take patch.at ts ++ f ∷ []) ≡ patch.at + 1 = length-append (take patch.at ts) (f ∷ []) ∙ ap (λ n. n + 1) front_length in
-          let ends : end_of us (patch.at + 1) ≡ span (take patch.at ts ++ f ∷ []) = ap (λ l. end_of l (patch.at + 1)) here ∙ ap span (take_at (take patch.at ts ++ f ∷ []) (fs ++ rest) (patch.at + 1) one) in
+          let here : us ≡ (take patch.at ts ++ f ∷ []) ++ (fs ++ rest) =
+          ap (λ l. take patch.at ts ++ (l ++ rest)) e
+          ∙ sym (append_assoc (take patch.at ts) (f ∷ []) (fs ++ rest)) in
+          let one : length (take patch.at ts ++ f ∷ []) ≡ patch.at + 1 =
+          length-append (take patch.at ts) (f ∷ []) ∙ ap (λ n. n + 1) front_length in
+          let ends : end_of us (patch.at + 1) ≡ span (take patch.at ts ++ f ∷ []) =
+          ap (λ l. end_of l (patch.at + 1)) here
+          ∙ ap span (take_at (take patch.at ts ++ f ∷ []) (fs ++ rest) (patch.at + 1) one) in
           let q = is.place in
           let far : q ≤ 0 + span (take patch.at ts ++ f ∷ []) + span fs =
           let n = new_end in
           let l = ap (λ k. end_of us (patch.at + k)) (ap length e) in
-          let two : length ((take patch.at ts ++ f ∷ []) ++ fs) ≡ patch.at + suc (length fs) = let m = length-append (take patch.at ts ++ f ∷ []) fs in omega (arith, m, one) in
+          let two : length ((take patch.at ts ++ f ∷ []) ++ fs) ≡ patch.at + suc (length fs) =
+          let m = length-append (take patch.at ts ++ f ∷ []) fs in omega (arith, m, one) in
           let all : end_of us (patch.at + suc (length fs)) ≡ span ((take patch.at ts ++ f ∷ []) ++ fs) =
-          ap (λ l. end_of l (patch.at + suc (length fs))) (here ∙ sym (append_assoc (take patch.at ts ++ f ∷ []) fs rest)) ∙ ap span (take_at ((take patch.at ts ++ f ∷ []) ++ fs) rest (patch.at + suc (length fs)) two) in
+          ap (λ l. end_of l (patch.at + suc (length fs)))
+          (here ∙ sym (append_assoc (take patch.at ts ++ f ∷ []) fs rest))
+          ∙ ap span (take_at ((take patch.at ts ++ f ∷ []) ++ fs) rest (patch.at + suc (length fs)) two) in
           let s = span-append (take patch.at ts ++ f ∷ []) fs in
           omega (arith, n, l, all, s) in
-          let fresh_is : patch.fresh ≡ fresh_from change.start q (0 + span (take patch.at ts ++ f ∷ [])) (fs ++ rest) =
-          is.fresh_are ∙ ap (fresh_from change.start q 0) here ∙ fresh_front change.start q 0 (take patch.at ts ++ f ∷ []) (fs ++ rest) (λ some. omega (arith, ends)) in
+          let fresh_is : patch.fresh ≡ fresh_from change.start q (0 + span (take patch.at ts ++ f ∷ []))
+          (fs ++ rest) =
+          is.fresh_are ∙ ap (fresh_from change.start q 0) here
+          ∙ fresh_front change.start q 0 (take patch.at ts ++ f ∷ []) (fs ++ rest)
+          (λ some. omega (arith, ends)) in
           let few = fresh_few change.start q (0 + span (take patch.at ts ++ f ∷ [])) fs rest far in
           let count = ap length fresh_is in
           let all = ap length e in

@@ -1,6 +1,9 @@
--- The loop of `recut`: what it keeps, one item more, and both ends. R are the roles of the old tokens, S those of the new ones: the
+-- The loop of `recut`: what it keeps, one item more, and both ends.
+-- R are the roles of the old tokens, S those of the new ones: the
 -- first x are the same, and so are those behind f of the new ones and m of the old ones.
-use Rattle.std.proofs.Common.{◌≡◌, ℕ, zero, suc, ◌+◌, ◌-◌, ◌≤◌, ◌<◌, ⊎_elim, true, false, true≢false, List, [], ◌∷◌, ◌++◌, length, take, drop, refl, ap, sym, ◌∙◌, subst, arith, append_assoc, length-append, length-take-le}
+use Rattle.std.proofs.Common.{◌≡◌, ℕ, zero, suc, ◌+◌, ◌-◌, ◌≤◌, ◌<◌, ⊎_elim, true, false, true≢false, List}
+use Rattle.std.proofs.Common.{[], ◌∷◌, ◌++◌, length, take, drop, refl, ap, sym, ◌∙◌, subst, arith}
+use Rattle.std.proofs.Common.{append_assoc, length-append, length-take-le}
 use Rattle.std.specs.Prelude.{◌↔◌, ◌==◌}
 use Rattle.std.specs.Bool.{beq}
 use Rattle.std.proofs.lemmas.Bool.{cases_lt}
@@ -24,7 +27,8 @@ pub record Keeps (cs : List ℕ) (x k start : ℕ) : Type 0 where
   pub before : start ≤ x
   pub next : k + 1 < length cs → x < tokens_before cs (k + 1)
 
--- behind i new tokens, `late` or more, stands an item of the old ones too; those before are none in both lists or in neither
+-- behind i new tokens, `late` or more, stands an item of the old
+-- ones too; those before are none in both lists or in neither
 pub record Joins (cs : List ℕ) (late old_late i : ℕ) : Type 0 where
   pub far : late ≤ i
   pub index : ℕ
@@ -33,7 +37,8 @@ pub record Joins (cs : List ℕ) (late old_late i : ℕ) : Type 0 where
   pub both : (i ≡ 0) ↔ (old_late + (i - late) ≡ 0)
 
 -- behind the first k items `news` have been cut, up to the token `index`
-pub record Recutting (cs : List ℕ) (S : List DepthRole) (x f m k start : ℕ) (news : List ℕ) (index back back_index : ℕ) : Type 0 where
+pub record Recutting (cs : List ℕ) (S : List DepthRole) (x f m k start : ℕ) (news : List ℕ)
+    (index back back_index : ℕ) : Type 0 where
   pub index_is : index ≡ start + total news
   pub within : index ≤ length S
   pub goes_on : cut_of S ≡ take k cs ++ (news ++ cut_of (drop index S))
@@ -48,7 +53,8 @@ pub record Advanced (cs : List ℕ) (x f m index back back_index : ℕ) : Type 0
   pub below : (j : ℕ) → j < back → tokens_before cs j < x + m + (index - (x + f))
   pub found : Joins cs (x + f) (x + m) index → back_index ≡ x + m + (index - (x + f))
 
--- the items that are put in place of those from k to before `end` make the items of the new tokens, and no item before joins
+-- the items that are put in place of those from k to before `end`
+-- make the items of the new tokens, and no item before joins
 pub record Recut (cs : List ℕ) (S : List DepthRole) (x f m k : ℕ) (news : List ℕ) (end : ℕ) : Type 0 where
   pub order : k ≤ end
   pub within : end ≤ length cs
@@ -70,7 +76,8 @@ pub record Goes (cs : List ℕ) (S : List DepthRole) (x f m k : ℕ) (news : Lis
   pub last : length (cut_of S) ≡ k + length news
 
 -- all items but the last have tokens
-pub before_strict : (rs : List DepthRole) (i j : ℕ) → i < j → j < length (cut_of rs) → tokens_before (cut_of rs) i < tokens_before (cut_of rs) j
+pub before_strict : (rs : List DepthRole) (i j : ℕ) → i < j → j < length (cut_of rs)
+    → tokens_before (cut_of rs) i < tokens_before (cut_of rs) j
 before_strict rs i j lt le =
     let g = (behind i rs (omega arith)).grows in
     let m = before_mono (cut_of rs) (suc i) j (omega arith) in
@@ -79,7 +86,8 @@ before_strict rs i j lt le =
 take_fewer : (n x : ℕ) (S R : List DepthRole) → n ≤ x → take x S ≡ take x R → take n S ≡ take n R
 take_fewer n x S R le e = sym (take-take n x S le) ∙ ap (take n) e ∙ take-take n x R le
 
-module _ (R S : List DepthRole) (x f m : ℕ) (meet : Meet R S x f m) (k start : ℕ) (keeps : Keeps (cut_of R) x k start) where
+module _ (R S : List DepthRole) (x f m : ℕ) (meet : Meet R S x f m) (k start : ℕ)
+    (keeps : Keeps (cut_of R) x k start) where
   front_length : length (take k (cut_of R)) ≡ k
   front_length = let w = keeps.within in length-take-le k (cut_of R) (omega (arith, w))
 
@@ -91,12 +99,15 @@ module _ (R S : List DepthRole) (x f m : ℕ) (meet : Meet R S x f m) (k start :
   front_goes_on =
       let s = split k R keeps.within in
       let same : take start S ≡ take start R = take_fewer start x S R keeps.before meet.front in
-      ap cut_of (sym (take-append-drop start S) ∙ ap (λ l. l ++ drop start S) same ∙ ap (λ n. take n R ++ drop start S) keeps.start_is) ∙ s.splits (drop start S)
+      ap cut_of (sym (take-append-drop start S) ∙ ap (λ l. l ++ drop start S) same
+      ∙ ap (λ n. take n R ++ drop start S) keeps.start_is) ∙ s.splits (drop start S)
 
   -- the tokens before the items that come behind `news`
-  pub boundary : (news rest : List ℕ) → cut_of S ≡ take k (cut_of R) ++ (news ++ rest) → tokens_before (cut_of S) (k + length news) ≡ start + total news
+  pub boundary : (news rest : List ℕ) → cut_of S ≡ take k (cut_of R) ++ (news ++ rest)
+      → tokens_before (cut_of S) (k + length news) ≡ start + total news
   boundary news rest e =
-      let l : length (take k (cut_of R) ++ news) ≡ k + length news = length-append (take k (cut_of R)) news ∙ ap (λ n. n + length news) front_length in
+      let l : length (take k (cut_of R) ++ news) ≡ k + length news = length-append (take k (cut_of R)) news
+      ∙ ap (λ n. n + length news) front_length in
       ap (λ l. tokens_before l (k + length news)) (e ∙ sym (append_assoc (take k (cut_of R)) news rest))
       ∙ ap total (take_at (take k (cut_of R) ++ news) rest (k + length news) l)
       ∙ total-append (take k (cut_of R)) news
@@ -121,7 +132,8 @@ module _ (R S : List DepthRole) (x f m : ℕ) (meet : Meet R S x f m) (k start :
     within = front_some;
     start_is = sym front_before;
     before = keeps.before;
-    next = λ more. ⊎_elim (λ lt. lt) (λ le. absurd (not_among more le)) (cases_lt x (tokens_before (cut_of S) (k + 1)));
+    next = λ more. ⊎_elim (λ lt. lt) (λ le. absurd (not_among more le))
+        (cases_lt x (tokens_before (cut_of S) (k + 1)));
   }
     where
       -- or the item were one of the old tokens too
@@ -130,13 +142,15 @@ module _ (R S : List DepthRole) (x f m : ℕ) (meet : Meet R S x f m) (k start :
           let b = tokens_before (cut_of S) (k + 1) in
           let s = split (k + 1) S more in
           let same : take b S ≡ take b R = take_fewer b x S R le meet.front in
-          let is : cut_of R ≡ take (k + 1) (cut_of S) ++ cut_of (drop b R) = ap cut_of (sym (take-append-drop b R) ∙ ap (λ l. l ++ drop b R) (sym same)) ∙ s.splits (drop b R) in
+          let is : cut_of R ≡ take (k + 1) (cut_of S) ++ cut_of (drop b R) =
+          ap cut_of (sym (take-append-drop b R) ∙ ap (λ l. l ++ drop b R) (sym same)) ∙ s.splits (drop b R) in
           let l = length-take-le (k + 1) (cut_of S) (omega arith) in
           let n = ap length is in
           let a = length-append (take (k + 1) (cut_of S)) (cut_of (drop b R)) in
           let c = cut_some (drop b R) in
           let next = keeps.next (omega (arith, l, n, a, c)) in
-          let same_before : tokens_before (cut_of R) (k + 1) ≡ b = ap (λ l. tokens_before l (k + 1)) is ∙ ap total (take_at (take (k + 1) (cut_of S)) (cut_of (drop b R)) (k + 1) l) in
+          let same_before : tokens_before (cut_of R) (k + 1) ≡ b = ap (λ l. tokens_before l (k + 1)) is
+          ∙ ap total (take_at (take (k + 1) (cut_of S)) (cut_of (drop b R)) (k + 1) l) in
           omega (arith, next, same_before)
 
   pub recutting_none : (news : List ℕ) → news ≡ [] → Recutting (cut_of R) S x f m k start news start k start
@@ -147,7 +161,8 @@ module _ (R S : List DepthRole) (x f m : ℕ) (meet : Meet R S x f m) (k start :
     back_from = omega arith;
     back_within = keeps.within;
     back_is = keeps.start_is;
-    below = λ j lt. let s = before_strict R j k lt keeps.within in let i = keeps.start_is in let b = keeps.before in omega (arith, s, i, b);
+    below = λ j lt. let s = before_strict R j k lt keeps.within in let i = keeps.start_is in
+        let b = keeps.before in omega (arith, s, i, b);
     none = λ j lt h.
         let s = before_strict S j k (omega arith) front_some in
         let e = front_before in
@@ -156,12 +171,17 @@ module _ (R S : List DepthRole) (x f m : ℕ) (meet : Meet R S x f m) (k start :
         omega (arith, s, e, b, far);
   })
 
-  pub advanced : (news : List ℕ) (index back back_index to to_index target : ℕ) → Recutting (cut_of R) S x f m k start news index back back_index → target ≡ x + m + (index - (x + f)) → to < length (cut_of R) → to_index ≡ tokens_before (cut_of R) to
-      → ((j : ℕ) → back ≤ j → j < to → tokens_before (cut_of R) j < target) → (to + 1 < length (cut_of R) → target ≤ to_index) → Advanced (cut_of R) x f m index to to_index
-  advanced news index back back_index to to_index target h is within at below reached = record { below = all; found = found }
+  pub advanced : (news : List ℕ) (index back back_index to to_index target : ℕ)
+      → Recutting (cut_of R) S x f m k start news index back back_index → target ≡ x + m + (index - (x + f))
+      → to < length (cut_of R) → to_index ≡ tokens_before (cut_of R) to
+      → ((j : ℕ) → back ≤ j → j < to → tokens_before (cut_of R) j < target)
+      → (to + 1 < length (cut_of R) → target ≤ to_index) → Advanced (cut_of R) x f m index to to_index
+  advanced news index back back_index to to_index target h is within at below reached =
+      record { below = all; found = found }
     where
       all : (j : ℕ) → j < to → tokens_before (cut_of R) j < x + m + (index - (x + f))
-      all j lt = ⊎_elim (λ less. h.below j less) (λ more. let b = below j more lt in omega (arith, b, is)) (cases_lt j back)
+      all j lt = ⊎_elim (λ less. h.below j less) (λ more. let b = below j more lt in omega (arith, b, is))
+          (cases_lt j back)
 
       found : Joins (cut_of R) (x + f) (x + m) index → to_index ≡ x + m + (index - (x + f))
       found j =
@@ -171,41 +191,51 @@ module _ (R S : List DepthRole) (x f m : ℕ) (meet : Meet R S x f m) (k start :
           ⊎_elim
           (λ less. let b = all j.index less in absurd (omega (arith, b, e)))
           (λ le. ⊎_elim
-          (λ more. let r = reached (omega (arith, w)) in let s = before_strict R to j.index more w in absurd (omega (arith, r, s, e, at, is)))
+          (λ more. let r = reached (omega (arith, w)) in let s = before_strict R to j.index more w in
+          absurd (omega (arith, r, s, e, at, is)))
           (λ ge. let z : j.index ≡ to = omega arith in z)
           (cases_lt to j.index))
           (cases_lt j.index to) in
           at ∙ ap (tokens_before (cut_of R)) (sym same) ∙ e
 
   -- one item more
-  pub recutting_more : (news more : List ℕ) (index count back back_index to to_index : ℕ) → Recutting (cut_of R) S x f m k start news index back back_index
-      → back ≤ to → to < length (cut_of R) → to_index ≡ tokens_before (cut_of R) to → ((j : ℕ) → j < to → tokens_before (cut_of R) j < x + m + (index - (x + f)))
-      → (Joins (cut_of R) (x + f) (x + m) index → ⊥) → index + count ≤ length S → cut_of (drop index S) ≡ count ∷ cut_of (drop (index + count) S) → more ≡ news ++ count ∷ []
+  pub recutting_more : (news more : List ℕ) (index count back back_index to to_index : ℕ)
+      → Recutting (cut_of R) S x f m k start news index back back_index
+      → back ≤ to → to < length (cut_of R) → to_index ≡ tokens_before (cut_of R) to
+      → ((j : ℕ) → j < to → tokens_before (cut_of R) j < x + m + (index - (x + f)))
+      → (Joins (cut_of R) (x + f) (x + m) index → ⊥) → index + count ≤ length S
+      → cut_of (drop index S) ≡ count ∷ cut_of (drop (index + count) S) → more ≡ news ++ count ∷ []
       → Recutting (cut_of R) S x f m k start more (index + count) to to_index
-  recutting_more news more index count back back_index to to_index h forth within at below apart fit item pushed = record {
-    index_is = let i = h.index_is in let t = ap total pushed ∙ total-append news (count ∷ []) in omega (arith, i, t);
-    within = fit;
-    goes_on =
-        h.goes_on
-        ∙ ap (λ l. take k (cut_of R) ++ (news ++ l)) item
-        ∙ ap (λ l. take k (cut_of R) ++ l) (sym (append_assoc news (count ∷ []) (cut_of (drop (index + count) S))) ∙ ap (λ l. l ++ cut_of (drop (index + count) S)) (sym pushed));
-    back_from = let b = h.back_from in omega (arith, b);
-    back_within = within;
-    back_is = at;
-    below = λ j lt. let b = below j lt in omega (arith, b);
-    none = λ j lt joins.
-        ⊎_elim
-        (λ less. h.none j less joins)
-        (λ ge.
-        let l = ap length pushed ∙ length_push news count in
-        let same : j ≡ k + length news = omega (arith, l) in
-        let here : tokens_before (cut_of S) j ≡ index = ap (tokens_before (cut_of S)) same ∙ boundary news (cut_of (drop index S)) h.goes_on ∙ sym h.index_is in
-        apart (subst (λ i. Joins (cut_of R) (x + f) (x + m) i) here joins))
-        (cases_lt j (k + length news));
-  }
+  recutting_more news more index count back back_index to to_index h forth within at below apart fit item
+      pushed = record {
+        index_is = let i = h.index_is in let t = ap total pushed ∙ total-append news (count ∷ []) in
+            omega (arith, i, t);
+        within = fit;
+        goes_on =
+            h.goes_on
+            ∙ ap (λ l. take k (cut_of R) ++ (news ++ l)) item
+            ∙ ap (λ l. take k (cut_of R) ++ l)
+            (sym (append_assoc news (count ∷ []) (cut_of (drop (index + count) S)))
+            ∙ ap (λ l. l ++ cut_of (drop (index + count) S)) (sym pushed));
+        back_from = let b = h.back_from in omega (arith, b);
+        back_within = within;
+        back_is = at;
+        below = λ j lt. let b = below j lt in omega (arith, b);
+        none = λ j lt joins.
+            ⊎_elim
+            (λ less. h.none j less joins)
+            (λ ge.
+            let l = ap length pushed ∙ length_push news count in
+            let same : j ≡ k + length news = omega (arith, l) in
+            let here : tokens_before (cut_of S) j ≡ index = ap (tokens_before (cut_of S)) same
+            ∙ boundary news (cut_of (drop index S)) h.goes_on ∙ sym h.index_is in
+            apart (subst (λ i. Joins (cut_of R) (x + f) (x + m) i) here joins))
+            (cases_lt j (k + length news));
+      }
 
   -- an item behind which another comes has tokens
-  pub item_some : (index count : ℕ) → cut_of (drop index S) ≡ count ∷ cut_of (drop (index + count) S) → 0 < count
+  pub item_some : (index count : ℕ) → cut_of (drop index S) ≡ count ∷ cut_of (drop (index + count) S)
+      → 0 < count
   item_some index count item =
       let l = ap length item in
       let s = cut_some (drop (index + count) S) in
@@ -214,10 +244,14 @@ module _ (R S : List DepthRole) (x f m : ℕ) (meet : Meet R S x f m) (k start :
       let e : tokens_before (cut_of (drop index S)) 1 ≡ count + 0 = ap (λ l. tokens_before l 1) item in
       omega (arith, g, e)
 
-  pub recut_joined : (news : List ℕ) (index back back_index to to_index : ℕ) → Recutting (cut_of R) S x f m k start news index back back_index → back ≤ to → to < length (cut_of R) → to_index ≡ tokens_before (cut_of R) to
-      → x + f ≤ index → to_index ≡ x + m + (index - (x + f)) → ((index ≡ 0) ↔ (to_index ≡ 0)) → Stays (cut_of R) S x f m k news to
+  pub recut_joined : (news : List ℕ) (index back back_index to to_index : ℕ)
+      → Recutting (cut_of R) S x f m k start news index back back_index → back ≤ to → to < length (cut_of R)
+      → to_index ≡ tokens_before (cut_of R) to
+      → x + f ≤ index → to_index ≡ x + m + (index - (x + f)) → ((index ≡ 0) ↔ (to_index ≡ 0))
+      → Stays (cut_of R) S x f m k news to
   recut_joined news index back back_index to to_index h forth within at far is both =
-      let here : tokens_before (cut_of S) (k + length news) ≡ index = boundary news (cut_of (drop index S)) h.goes_on ∙ sym h.index_is in
+      let here : tokens_before (cut_of S) (k + length news) ≡ index =
+      boundary news (cut_of (drop index S)) h.goes_on ∙ sym h.index_is in
       let split_index : index ≡ x + f + (index - (x + f)) = omega arith in
       let rest : drop index S ≡ drop (tokens_before (cut_of R) to) R =
       ap (λ i. drop i S) split_index
@@ -229,32 +263,40 @@ module _ (R S : List DepthRole) (x f m : ℕ) (meet : Meet R S x f m) (k start :
         recut = record {
           order = let b = h.back_from in omega (arith, b);
           within = omega arith;
-          are = h.goes_on ∙ ap (λ l. take k (cut_of R) ++ (news ++ l)) (ap cut_of rest ∙ sym (cut_drop to R within));
+          are = h.goes_on ∙ ap (λ l. take k (cut_of R) ++ (news ++ l)) (ap cut_of rest
+              ∙ sym (cut_drop to R within));
           none = h.none;
         };
         there = within;
         far = let e = here in omega (arith, e);
         ends = let e = here in omega (arith, e, at, is);
-        both = subst (λ i. (i ≡ 0) ↔ (tokens_before (cut_of R) to ≡ 0)) (sym here) (subst (λ i. (index ≡ 0) ↔ (i ≡ 0)) at both);
+        both = subst (λ i. (i ≡ 0) ↔ (tokens_before (cut_of R) to ≡ 0)) (sym here)
+            (subst (λ i. (index ≡ 0) ↔ (i ≡ 0)) at both);
       }
 
-  pub recut_ended : (news more : List ℕ) (index count back back_index end : ℕ) → Recutting (cut_of R) S x f m k start news index back back_index → (Joins (cut_of R) (x + f) (x + m) index → ⊥) → cut_of (drop index S) ≡ count ∷ [] → more ≡ news ++ count ∷ [] → end ≡ length (cut_of R) → Goes (cut_of R) S x f m k more end
+  pub recut_ended : (news more : List ℕ) (index count back back_index end : ℕ)
+      → Recutting (cut_of R) S x f m k start news index back back_index
+      → (Joins (cut_of R) (x + f) (x + m) index → ⊥) → cut_of (drop index S) ≡ count ∷ []
+      → more ≡ news ++ count ∷ [] → end ≡ length (cut_of R) → Goes (cut_of R) S x f m k more end
   recut_ended news more index count back back_index end h apart item pushed all =
       let g = front_length in
       let l = ap length pushed ∙ length_push news count in
-      let are : cut_of S ≡ take k (cut_of R) ++ more = h.goes_on ∙ ap (λ l. take k (cut_of R) ++ (news ++ l)) item ∙ ap (λ l. take k (cut_of R) ++ l) (sym pushed) in
+      let are : cut_of S ≡ take k (cut_of R) ++ more = h.goes_on
+      ∙ ap (λ l. take k (cut_of R) ++ (news ++ l)) item ∙ ap (λ l. take k (cut_of R) ++ l) (sym pushed) in
       let nil : drop end (cut_of R) ≡ [] = drop_none (cut_of R) end (omega (arith, all)) in
       record {
         recut = record {
           order = let w = keeps.within in omega (arith, w, all);
           within = omega (arith, all);
-          are = are ∙ ap (λ l. take k (cut_of R) ++ l) (sym (append_none more) ∙ ap (λ l. more ++ l) (sym nil));
+          are = are ∙ ap (λ l. take k (cut_of R) ++ l) (sym (append_none more)
+              ∙ ap (λ l. more ++ l) (sym nil));
           none = λ j lt joins.
               ⊎_elim
               (λ less. h.none j less joins)
               (λ ge.
               let same : j ≡ k + length news = omega (arith, l) in
-              let here : tokens_before (cut_of S) j ≡ index = ap (tokens_before (cut_of S)) same ∙ boundary news (cut_of (drop index S)) h.goes_on ∙ sym h.index_is in
+              let here : tokens_before (cut_of S) j ≡ index = ap (tokens_before (cut_of S)) same
+              ∙ boundary news (cut_of (drop index S)) h.goes_on ∙ sym h.index_is in
               apart (subst (λ i. Joins (cut_of R) (x + f) (x + m) i) here joins))
               (cases_lt j (k + length news));
         };
@@ -281,7 +323,9 @@ pub record Moved (cs : List ℕ) (x f m index back to to_index : ℕ) : Type 0 w
   pub apart : Joins cs (x + f) (x + m) index → ⊥
 
 -- the tokens are not behind the fresh ones yet
-pub moved_not : (cs : List ℕ) (S : List DepthRole) (x f m k start : ℕ) (news : List ℕ) (index back back_index to to_index : ℕ) → Recutting cs S x f m k start news index back back_index → index < x + f → to ≡ back → to_index ≡ back_index → Moved cs x f m index back to to_index
+pub moved_not : (cs : List ℕ) (S : List DepthRole) (x f m k start : ℕ) (news : List ℕ)
+    (index back back_index to to_index : ℕ) → Recutting cs S x f m k start news index back back_index
+    → index < x + f → to ≡ back → to_index ≡ back_index → Moved cs x f m index back to to_index
 moved_not cs S x f m k start news index back back_index to to_index h near same same_index = record {
   forth = omega (arith, same);
   within = let w = h.back_within in omega (arith, w, same);
@@ -291,7 +335,9 @@ moved_not cs S x f m k start news index back back_index to to_index h near same 
 }
 
 -- they are
-pub moved_on : (cs : List ℕ) (x f m index back to to_index there there_index : ℕ) → Advanced cs x f m index there there_index → back ≤ there → there < length cs → there_index ≡ tokens_before cs there → to ≡ there → to_index ≡ there_index
+pub moved_on : (cs : List ℕ) (x f m index back to to_index there there_index : ℕ)
+    → Advanced cs x f m index there there_index → back ≤ there → there < length cs
+    → there_index ≡ tokens_before cs there → to ≡ there → to_index ≡ there_index
     → (Joins cs (x + f) (x + m) index → ⊥) → Moved cs x f m index back to to_index
 moved_on cs x f m index back to to_index there there_index h forth within at same same_index apart = record {
   forth = omega (arith, forth, same);
@@ -304,12 +350,18 @@ moved_on cs x f m index back to to_index there there_index h forth within at sam
 -- a test whether two numbers are 0
 pub both_zero : (i j : ℕ) → beq (i == 0) (j == 0) ≡ true → (i ≡ 0) ↔ (j ≡ 0)
 both_zero zero zero e = (λ h. h, λ h. h)
-both_zero zero (suc j) e = let t : beq true (suc j == 0) ≡ true = e in let z : (suc j == 0) ≡ false = grind arith in let d = ap (beq true) z in (cc)
-both_zero (suc i) zero e = let t : beq (suc i == 0) true ≡ true = e in let z : (suc i == 0) ≡ false = grind arith in let d = ap (λ b. beq b true) z in (cc)
+both_zero zero (suc j) e =
+    let t : beq true (suc j == 0) ≡ true = e in let z : (suc j == 0) ≡ false = grind arith in
+    let d = ap (beq true) z in (cc)
+both_zero (suc i) zero e =
+    let t : beq (suc i == 0) true ≡ true = e in let z : (suc i == 0) ≡ false = grind arith in
+    let d = ap (λ b. beq b true) z in (cc)
 both_zero (suc i) (suc j) e = (λ h. absurd (omega (arith, h)), λ h. absurd (omega (arith, h)))
 
 pub not_both_zero : (i j : ℕ) → beq (i == 0) (j == 0) ≡ false → ((i ≡ 0) ↔ (j ≡ 0)) → ⊥
 not_both_zero zero zero e h = true≢false e
 not_both_zero zero (suc j) e h = let z = h.0 refl in omega (arith, z)
 not_both_zero (suc i) zero e h = let z = h.1 refl in omega (arith, z)
-not_both_zero (suc i) (suc j) e h = let z : (suc i == 0) ≡ false = grind arith in let w : (suc j == 0) ≡ false = grind arith in true≢false (ap (λ b. beq b false) (sym z) ∙ ap (beq (suc i == 0)) (sym w) ∙ e)
+not_both_zero (suc i) (suc j) e h =
+    let z : (suc i == 0) ≡ false = grind arith in let w : (suc j == 0) ≡ false = grind arith in
+    true≢false (ap (λ b. beq b false) (sym z) ∙ ap (beq (suc i == 0)) (sym w) ∙ e)

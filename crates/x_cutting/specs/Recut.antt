@@ -55,6 +55,13 @@ IsRejoining change ts us cs ds q None = (other : ℕ) → Rejoins change ts us c
 IsRejoining change ts us cs ds q (Some z) =
     Rejoins change ts us cs ds q z × ((other : ℕ) → other < z → Rejoins change ts us cs ds q other → ⊥)
 
+-- behind the place where the tokens meet again, the items join again there, if they do
+pub record IsJoin (change : Change) (ts us : List (Kind × ℕ)) (cs ds : List ℕ) (join : Option ℕ) :
+    Type 0 where
+  pub place : ℕ
+  pub meeting : IsMeeting change ts us place
+  pub rejoining : IsRejoining change ts us cs ds place join
+
 -- the place is z or behind it, where there is a z
 abbrev pub IsBehind : Option ℕ → ℕ → Type 0
 IsBehind None place = ⊥
@@ -70,24 +77,33 @@ pub record IsAmong (i at end : ℕ) : Type 0 where
   pub from : at ≤ i
   pub to : i < end
 
+-- the items from `at` to before `end` are those that are recut
+abbrev pub AreRecut : {K : Type 0} → List (Kind × ℕ) → List (ItemEntry K) → (a : ℕ) (z : Option ℕ)
+    (at end : ℕ) → Type 0
+AreRecut us items a z at end =
+    (i : ℕ) → i < length items → IsAmong i at end ↔ IsRecut us (counts items) a z i
+
+-- the items before `at` are those that end before a
+abbrev pub EndFirst : {K : Type 0} → List (Kind × ℕ) → List (ItemEntry K) → (a at : ℕ) → Type 0
+EndFirst ts items a at = (i : ℕ) → i < length items → (i < at) ↔ EndsBefore ts (counts items) a i
+
+-- the items from `end` on are those that start at the place or behind it, where there is one
+abbrev pub StartLast : {K : Type 0} → List (Kind × ℕ) → List (ItemEntry K) → Option ℕ → (end : ℕ) → Type 0
+StartLast ts items place end =
+    (i : ℕ) → i < length items → (end ≤ i) ↔ IsBehind place (start_of ts (counts items) i)
+
 -- the patch leaves the items of the new text; its fresh items are those that are recut; and of the old items
--- it leaves those that end before a, in front, and those that start at the old place of z or behind it
+-- it leaves those that end before the change, in front, and those that start where items join again or behind
 pub record IsItemPatch {K : Type 0} (change : Change) (ts us : List (Kind × ℕ)) (items : List (ItemEntry K))
     (patch : ItemChange K) : Type 0 where
   pub among : LiesAmong items patch
   pub start : patch.start ≡ tokens_before (counts items) patch.at
   pub cut : IsCut (lexemes (edited_by change) us) (counts (patched items patch))
-  pub place : ℕ
-  pub meeting : IsMeeting change ts us place
   pub join : Option ℕ
-  pub rejoining : IsRejoining change ts us (counts items) (counts (patched items patch)) place join
-  pub fresh : (i : ℕ) → i < length (patched items patch)
-      → IsAmong i patch.at (patch.at + length patch.fresh) ↔ IsRecut us
-      (counts (patched items patch)) change.start join i
-  pub front : (i : ℕ) → i < length items → (i < patch.at) ↔ EndsBefore ts (counts items) change.start i
-  pub rear : (i : ℕ) → i < length items
-      → (patch.at + patch.removed ≤ i) ↔ IsBehind (option_map (old_place change) join)
-      (start_of ts (counts items) i)
+  pub joins : IsJoin change ts us (counts items) (counts (patched items patch)) join
+  pub fresh : AreRecut us (patched items patch) change.start join patch.at (patch.at + length patch.fresh)
+  pub front : EndFirst ts items change.start patch.at
+  pub rear : StartLast ts items (option_map (old_place change) join) (patch.at + patch.removed)
 
 -- the two patches take out and put in the same items, whatever is kept with them
 pub record AreOne {K : Type 0} (p q : ItemChange K) : Type 0 where

@@ -35,12 +35,13 @@ is_compiled : (files : List ℕ) (blanks : Bool) (shown front bytes : List ℕ) 
     → front ≡ files ++ constants_of blanks shown → bytes ≡ compiled_of blanks shown
     → text.files.items ≡ front → text.session.text ≡ bytes → text.from_c ≡ from
     → IsBefore front from bytes text.session.known → IsCompiled files blanks shown text
-is_compiled files blanks shown front bytes from text front_is bytes_are own own_text own_from before = record {
-  files_are = own ∙ front_is;
-  text_is = own_text ∙ bytes_are;
-  before = merely (before_so files blanks shown front bytes from text front_is bytes_are own own_text
-      own_from before);
-}
+is_compiled files blanks shown front bytes from text front_is bytes_are own own_text own_from before =
+    record {
+      files_are = own ∙ front_is;
+      text_is = own_text ∙ bytes_are;
+      before = merely (before_so files blanks shown front bytes from text front_is bytes_are own own_text
+          own_from before);
+    }
 
 pub opened_so : {E : Type 0} (r : Result FollowedText E) (files : List ℕ) (blanks : Bool)
     (shown front bytes : List ℕ)

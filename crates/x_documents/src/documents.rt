@@ -1,7 +1,7 @@
 //! The documents that a client has open.
 
 ghost use Rattle.std.specs.Prelude.{◌≡◌, ◌<◌, ◌⊎◌, [], MatchOption, None, OnErr, OnOk, Some, bytes_eq};
-ghost use Rattle.std.specs.Prelude.{filter, map, not, option_map, remove, vec_len};
+ghost use Rattle.std.specs.Prelude.{filter, length, map, not, option_map, remove, vec_len};
 ghost use Rattle.std.specs.List.{list_any};
 ghost use Rattle.serde_json.specs.View.{items_view};
 ghost use Rattle.serde_json.specs.Written.{compact_text};
@@ -25,6 +25,10 @@ use x_frames::{NoteKind, text_changes};
 use x_hash::HashKey;
 use x_text::NoMemory;
 
+/// For how many documents there is room from the start: a list that grew later would stand in memory behind
+/// them, and keep theirs from going back to the system.
+const ROOM: usize = 64;
+
 /// The documents that a client has open, each of another name.
 #[derive(Drop)]
 pub struct Documents {
@@ -40,11 +44,22 @@ impl Documents {
     pub fn new(alloc: Global, hash_key: HashKey) -> Documents
         ensures { documents_of result ≡ [] }
     {
+        let list = match Vec::with_capacity(alloc, ROOM) {
+            Ok(list) => list,
+            Err(_) => Vec::new(alloc),
+        };
         Documents {
             alloc,
             hash_key,
-            list: Vec::new(alloc),
+            list,
         }
+    }
+
+    /// How many there are.
+    pub fn count(&self) -> usize
+        ensures { result ≡ length (documents_of self.now) }
+    {
+        self.list.len()
     }
 
     /// The index of the document of a URI.

@@ -9,7 +9,8 @@ use Rattle.x_explain.specs.Explained.{foreign_line}
 use Rattle.x_session.specs.Foreign.{view_all, view_foreign}
 use Rattle.x_session.specs.declared.foreign.ForeignName as rust
 
-pub line_more : (coloured : Bool) (file : List ℕ) (names : List rust.ForeignName) (i : ℕ) (d : rust.ForeignName)
+pub line_more : (coloured : Bool) (file : List ℕ) (names : List rust.ForeignName) (i : ℕ)
+    (d : rust.ForeignName)
     (p q r : Inked) (a b c : Stream) → i < length names
     → Adds p a q b (foreign_line coloured file (view_foreign (get_or names i d)))
     → Adds q b r c (flat_map (foreign_line coloured file) (view_all (drop (i + 1) names)))

@@ -7,7 +7,8 @@ use Rattle.x_session.specs.declared.declared.FirstPlace.{FirstPlace}
 use Rattle.x_explain.specs.declared.known_files.FirstDeclaration as rust
 use Rattle.x_explain.specs.declared.known_files.KnownFile.{KnownFile}
 use Rattle.x_session.specs.DeclaredNames.{IsTableOf, first_place}
-use Rattle.x_explain.specs.KnownFiles.{FirstDeclaration, KnownPlaces, declared_in, file_place, first_declaration}
+use Rattle.x_explain.specs.KnownFiles.{FirstDeclaration, KnownPlaces, declared_in, file_place}
+use Rattle.x_explain.specs.KnownFiles.{first_declaration}
 use Rattle.x_session.specs.DeclaredNames.{place_in}
 use Rattle.x_explain.specs.KnownFiles.{places_of_files, view_first, with_file}
 use Rattle.x_session.proofs.DeclaredLemmas.{place_items}

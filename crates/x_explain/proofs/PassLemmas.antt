@@ -1,5 +1,6 @@
 -- Passes over the faults of a text.
-use Rattle.std.proofs.Common.{◌≡◌, ℕ, ◌+◌, Bool, cond, Option, List, [], ◌∷◌, ◌++◌, refl, sym, ap, subst, ◌∙◌, append_assoc, append-nil}
+use Rattle.std.proofs.Common.{◌≡◌, ℕ, ◌+◌, Bool, cond, Option, List, [], ◌∷◌, ◌++◌, refl, sym, ap, subst, ◌∙◌}
+use Rattle.std.proofs.Common.{append_assoc, append-nil}
 use Rattle.std.specs.Prelude.{slice_range}
 use Rattle.std.specs.List.{flat_map}
 use Rattle.std.proofs.lemmas.List.Sums.{sum_by-cons}
@@ -22,8 +23,10 @@ use Rattle.x_session.proofs.DeclaredLemmas.{of_each}
 use Rattle.x_explain.proofs.FoundLemmas.{found_more}
 
 -- the notes among one place and others
-pub note_more : (p : FaultPlace) (ps : List FaultPlace) (b : Bool) → is_note p.code ≡ b → notes_at (p ∷ ps) ≡ cond b 1 0 + notes_at ps
-note_more p ps b is = sum_by-cons (λ (q : FaultPlace). cond (is_note q.code) 1 0) p ps ∙ ap (λ x. cond x 1 0 + notes_at ps) is
+pub note_more : (p : FaultPlace) (ps : List FaultPlace) (b : Bool) → is_note p.code ≡ b
+    → notes_at (p ∷ ps) ≡ cond b 1 0 + notes_at ps
+note_more p ps b is = sum_by-cons (λ (q : FaultPlace). cond (is_note q.code) 1 0) p ps
+    ∙ ap (λ x. cond x 1 0 + notes_at ps) is
 
 -- what a pass says of all but the places that are left was added, by the items of the text
 abbrev pub Near : Type 0
@@ -40,8 +43,10 @@ pub record HasPassed (pass : Pass) (known : KnownText) (places : KnownPlaces) (t
   pub are : AreFound t.text seen found
   pub added : Adds p before q now (flat_map (said_by pass places t items near) found)
 
-pub passed_none : {P : List Item → Type 0} {known : KnownText} (pass : Pass) (places : KnownPlaces) (t : Telling) (near : Near) (all : List FaultPlace)
-    (p : Inked) (now : Stream) → Compiles known t.text P → HasPassed pass known places t near all all p now p now
+pub passed_none : {P : List Item → Type 0} {known : KnownText} (pass : Pass) (places : KnownPlaces)
+    (t : Telling) (near : Near) (all : List FaultPlace)
+    (p : Inked) (now : Stream) → Compiles known t.text P
+    → HasPassed pass known places t near all all p now p now
 passed_none pass places t near all p now c = record {
   tokens = c.0;
   items = c.1;
@@ -53,7 +58,8 @@ passed_none pass places t near all p now c = record {
   added = adds_none p now;
 }
 
-pub passed_more : {known : KnownText} (pass : Pass) (places : KnownPlaces) (t : Telling) (near : Near) (all left : List FaultPlace) (f : FaultPlace)
+pub passed_more : {known : KnownText} (pass : Pass) (places : KnownPlaces) (t : Telling) (near : Near)
+    (all left : List FaultPlace) (f : FaultPlace)
     (d : FoundFault) (p q r : Inked) (a b c : Stream)
     → HasPassed pass known places t near all (f ∷ left) p a q b → IsFound t.text f d
     → ((tokens : List (Kind × ℕ)) (items : List Item) → IsCompilation known t.text tokens items
@@ -76,7 +82,8 @@ passed_more pass places t near all left f d p q r a b c so is adds =
           (adds_trans p q r a b c (flat_map say so.found) (say d) so.added more);
     }
 
-pub passed_all : {known : KnownText} (pass : Pass) (places : KnownPlaces) (t : Telling) (near : Near) (all left : List FaultPlace) (p q : Inked)
+pub passed_all : {known : KnownText} (pass : Pass) (places : KnownPlaces) (t : Telling) (near : Near)
+    (all left : List FaultPlace) (p q : Inked)
     (a b : Stream) → left ≡ [] → Compiles known t.text (λ items. all ≡ places_of items)
     → HasPassed pass known places t near all left p a q b
     → Compiles known t.text (λ items. IsPass pass places t items near (places_of items) p a q b)
@@ -90,11 +97,13 @@ passed_all pass places t near all left p q a b none listed so =
     )
 
 -- how a fault is told is how all are, and what is known of its word is what the items say
-pub said_as : (pass : Pass) (places : KnownPlaces) (coloured : Bool) (file text here : List ℕ) (items : List Item) (near : Near)
+pub said_as : (pass : Pass) (places : KnownPlaces) (coloured : Bool) (file text here : List ℕ)
+    (items : List Item) (near : Near)
     (d : FoundFault) (word : List ℕ) (k : Known) (p q : Inked) (a b : Stream) → text ≡ here
     → word ≡ slice_range text d.start d.end → k ≡ known_of places here items near d.code d.start word
     → Adds p a q b (said_in pass (record { coloured = coloured; file = file; text = text }) d k)
-    → Adds p a q b (said_by pass places (record { coloured = coloured; file = file; text = here }) items near d)
+    → Adds p a q b (said_by pass places (record { coloured = coloured; file = file; text = here })
+    items near d)
 said_as pass places coloured file text here items near d word k p q a b is word_is known_is added =
     let w = word_is ∙ ap (λ x. slice_range x d.start d.end) is in
     let f = known_is ∙ ap (known_of places here items near d.code d.start) w in

@@ -181,14 +181,14 @@ said_by pass before t items near d =
     said_in pass t d (known_of before t.text items near d.code d.start (word_of t.text d))
 
 -- `3 errors, 1 note`
-abbrev pub counted : ℕ → List ℕ → List ℕ
-counted n what = decimal n ++ codes " " ++ what ++ (if n == 1 then [] else codes "s")
+abbrev pub counted_noun : ℕ → List ℕ → List ℕ
+counted_noun n what = decimal n ++ codes " " ++ what ++ (if n == 1 then [] else codes "s")
 
 abbrev pub counted_notes : ℕ → List ℕ
-counted_notes n = if n == 0 then [] else codes ", " ++ counted n (codes "note")
+counted_notes n = if n == 0 then [] else codes ", " ++ counted_noun n (codes "note")
 
 abbrev pub summary : (errors notes : ℕ) → List ℕ
-summary errors notes = counted errors (codes "error") ++ counted_notes notes ++ codes "\n"
+summary errors notes = counted_noun errors (codes "error") ++ counted_notes notes ++ codes "\n"
 
 abbrev pub notes_at : List FaultPlace → ℕ
 notes_at places = count_by (λ p. is_note p.code) places

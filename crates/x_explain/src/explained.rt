@@ -5,9 +5,9 @@ ghost use Rattle.x_text.specs.Text.{line_of, column_of};
 ghost use Rattle.x_streams.specs.Writing.{Adds};
 ghost use Rattle.x_compile.specs.Compile.{places_of};
 ghost use Rattle.x_session.specs.Session.{Compiles};
-ghost use Rattle.x_explain.specs.Explained.{AreExplained, IsPass, counted, counted_notes, explained, heading};
-ghost use Rattle.x_explain.specs.Explained.{headline, help_line, help_of, is_note, notes_at, said_in};
-ghost use Rattle.x_explain.specs.Explained.{summary};
+ghost use Rattle.x_explain.specs.Explained.{AreExplained, IsPass, counted_noun, counted_notes, explained};
+ghost use Rattle.x_explain.specs.Explained.{heading, headline, help_line, help_of, is_note, notes_at};
+ghost use Rattle.x_explain.specs.Explained.{said_in, summary};
 ghost use Rattle.x_explain.specs.Facts.{AreFactsOf, before_in, foreign_in, kind_of, near_in};
 ghost use Rattle.x_explain.specs.Facts.{view_known};
 ghost use Rattle.x_explain.specs.KnownFiles.{view_first};
@@ -233,7 +233,7 @@ fn error_count(session: &Session) -> usize
 /// Adds a number with its noun.
 #[tactic(auto, using(x_text::proofs::Adding::four))]
 fn add_counted<S: Sink>(count: u128, noun: &str, pen: &mut Pen, sink: &mut S)
-    ensures { Adds pen.old (S.state sink.old) pen.new (S.state sink.new) (counted count noun.now) }
+    ensures { Adds pen.old (S.state sink.old) pen.new (S.state sink.new) (counted_noun count noun.now) }
 {
     add_number(count, pen, sink);
     pen.add(b" ", sink);

@@ -20,7 +20,8 @@ use Rattle.x_compile.specs.declared.content.Content.{Content}
 use Rattle.x_compile.proofs.KeptLemmas.{count_found}
 use Rattle.x_follow.proofs.PlannedLemmas.{faults_own, with_none}
 
-pub table_checked : (known : KnownText) (text : List ℕ) (tokens : List (Kind × ℕ)) (t : ItemTable) → IsKept known text tokens t.entries.list t.faults t.uses → IsCheckedTable (known_names known) t
+pub table_checked : (known : KnownText) (text : List ℕ) (tokens : List (Kind × ℕ)) (t : ItemTable)
+    → IsKept known text tokens t.entries.list t.faults t.uses → IsCheckedTable (known_names known) t
 table_checked known text tokens t h =
     let es = t.entries.list in
     let ks = items.kept es in
@@ -28,12 +29,14 @@ table_checked known text tokens t h =
       short = h.short;
       results = h.are_results;
       sound = h.sound;
-      count = h.count_is ∙ sym (count_found text 0 (lexemes text tokens) es (overlaid 0 ks []) es (with_none 0 es)) ∙ faults_own 0 ks;
+      count = h.count_is ∙ sym (count_found text 0 (lexemes text tokens) es (overlaid 0 ks []) es
+          (with_none 0 es)) ∙ faults_own 0 ks;
       uses = h.uses_are;
     }
 
 -- another table with the same items
-pub table_same : (known : KnownNames) (t u : ItemTable) → IsCheckedTable known t → u.entries.list ≡ t.entries.list → u.faults ≡ t.faults → AreUsed t.entries.list u.uses → IsCheckedTable known u
+pub table_same : (known : KnownNames) (t u : ItemTable) → IsCheckedTable known t → u.entries.list
+    ≡ t.entries.list → u.faults ≡ t.faults → AreUsed t.entries.list u.uses → IsCheckedTable known u
 table_same known t u h list faults used = record {
   short = subst (λ es. AreShort (entry_definitions es)) (sym list) h.short;
   results = subst (λ es. AreResults known (entry_definitions es) (entry_results es)) (sym list) h.results;
@@ -42,5 +45,6 @@ table_same known t u h list faults used = record {
   uses = subst (λ es. AreUsed es u.uses) (sym list) used;
 }
 
-pub used_of : (es fs : List (ItemEntry Content)) (uses : Option UseTable) → fs ≡ es → AreUsed fs uses → AreUsed es uses
+pub used_of : (es fs : List (ItemEntry Content)) (uses : Option UseTable) → fs ≡ es → AreUsed fs uses
+    → AreUsed es uses
 used_of es fs uses same used = subst (λ l. AreUsed l uses) same used

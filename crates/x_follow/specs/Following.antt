@@ -22,7 +22,7 @@ use Rattle.x_recheck.specs.Staleness.{AreStale, Ascending}
 use Rattle.x_compile.specs.Checking.{AreRendered, IsSound, kept_definitions}
 use Rattle.x_compile.specs.Counting.{faults_found, own_faults}
 use Rattle.x_compile.specs.KeptView.{AreParsed, entry_definitions, entry_results, found_result}
-use Rattle.x_follow.specs.Moves.{place_of}
+use Rattle.x_follow.specs.Moves.{splice_of}
 use Rattle.x_follow.specs.Planned.{ArePlanned, numbers_of, overlaid}
 use Rattle.x_compile.specs.declared.item_table.ItemTable.{ItemTable}
 use Rattle.x_compile.specs.declared.content.CheckResult.{CheckResult}
@@ -83,7 +83,7 @@ edit_of known es p = record {
   known = known;
   old = entry_definitions es;
   outcomes = entry_results es;
-  place = place_of p;
+  place = splice_of p;
   put = entry_definitions p.fresh;
 }
 

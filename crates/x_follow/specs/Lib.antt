@@ -3,3 +3,4 @@ pub mod Lacking
 pub mod Moves
 pub mod Planned
 pub mod Rendered
+pub mod inside

@@ -1,8 +1,6 @@
 -- How many items an edit moves: those that change are put in place from the first to the last.
-use Rattle.std.specs.Prelude.{◌≡◌, ℕ, ◌+◌, ◌-◌, nat_lt, List, [], ◌∷◌, ◌++◌, length, map}
-use Rattle.std.specs.Prelude.{Option, None, Some, if◌then◌else◌}
+use Rattle.std.specs.Prelude.{ℕ, ◌+◌, ◌-◌, nat_lt, List, [], ◌∷◌, ◌++◌, length, map, if◌then◌else◌}
 use Rattle.std.specs.List.{filter}
-use Rattle.x_streams.specs.Counters.{raised}
 use Rattle.x_lists.specs.Seqs.{distance}
 use Rattle.x_cutting.specs.ItemList.{ItemChange}
 use Rattle.x_uses.specs.declared.uses.ItemSplice.{ItemSplice}
@@ -21,8 +19,8 @@ abbrev pub changed_entry : ℕ → ℕ → Changed
 changed_entry was k = record { from = was; to = was + 1; end = k + 1 }
 
 -- where a patch puts its items
-abbrev pub place_of : {K : Type 0} → ItemChange K → ItemSplice
-place_of p = record { at = p.at; removed = p.removed; added = length p.fresh }
+abbrev pub splice_of : {K : Type 0} → ItemChange K → ItemSplice
+splice_of p = record { at = p.at; removed = p.removed; added = length p.fresh }
 
 -- the items of these numbers that stay before the place
 abbrev pub changed_before : ItemSplice → List ℕ → List Changed
@@ -62,15 +60,3 @@ moves seat (c ∷ cs) = distance seat c.from c.to + unchanged_between c.to cs
 abbrev pub seat_behind : ℕ → List Changed → ℕ
 seat_behind seat [] = seat
 seat_behind seat (c ∷ cs) = seat_behind c.end cs
-
--- ---- while it is carried out
-
--- so many entries moved so far, and the seat is there, while these changes are left of all
-pub record HasMoved (seat : ℕ) (all : List Changed) (moved now : ℕ) (left : List Changed) : Type 0 where
-  pub moves_are : raised 0 (moves seat all) ≡ raised moved (moves now left)
-  pub seat_is : seat_behind seat all ≡ seat_behind now left
-
--- what is left to change where the patch is still to be carried out, or was
-abbrev pub left_changes : {K : Type 0} → Option (ItemChange K) → List ℕ → List Changed
-left_changes None ks = map (λ k. changed_entry k k) ks
-left_changes (Some p) ks = changed_items (place_of p) ks

@@ -8,8 +8,9 @@ ghost use Rattle.x_recheck.specs.Staleness.{Ascending};
 ghost use Rattle.x_compile.specs.Checking.{IsKnownAt};
 ghost use Rattle.x_follow.specs.Following.{CanPut, behind, kept_behind, whole};
 ghost use Rattle.x_compile.specs.KeptView.{AreWith, IsWithAt};
-ghost use Rattle.x_follow.specs.Moves.{HasMoved, changed_items, left_changes, moves, place_of, seat_behind};
+ghost use Rattle.x_follow.specs.Moves.{changed_items, moves, seat_behind, splice_of};
 ghost use Rattle.x_follow.specs.Planned.{ArePlanned, numbers_of};
+ghost use Rattle.x_follow.specs.inside.Carrying.{HasMoved, IsCounted, left_changes};
 
 use crate::planned::PlannedResult;
 use x_compile::{CheckResult, Content};
@@ -27,10 +28,11 @@ pub fn put_changes(
     requires ascending { Ascending 0 (numbers_of found.items) }
     ensures items { AreWith (patched items.old.list patch) (behind items.old.list patch found.items)
         items.new.list }
-    ensures moved { result ≡ moves items.old.seat (changed_items (place_of patch) (numbers_of found.items)) }
+    ensures moved { result ≡ moves items.old.seat (changed_items (splice_of patch) (numbers_of found.items)) }
     ensures few { result ≤ 2 * (MAX_TEXT + 1) }
     ensures seat { items.new.seat ≡ seat_behind items.old.seat
-        (changed_items (place_of patch) (numbers_of found.items)) }
+        (changed_items (splice_of patch) (numbers_of found.items)) }
+    ensures counted { items.new.moved ≡ items.old.moved + result }
 {
     // A read of the count shows that the sum fits its type.
     let _counted = items.len();
@@ -58,6 +60,7 @@ fn put_next(
     ensures moved { (ks : List ℕ) → Ascending (planned.item + 1) ks
         → HasMoved items.old.seat (left_changes pending.old (planned.item ∷ ks)) result items.new.seat
         (left_changes pending.new ks) }
+    ensures counted { IsCounted items.old.moved items.new.moved result }
 {
     let PlannedResult { item, found } = planned;
     if let Some(patch) = pending {
@@ -84,6 +87,7 @@ fn put_pending(items: &mut Items<Content>, pending: &mut Option<ItemPatch<Conten
         (λ patch. Ascending (patch.at + length patch.fresh) ks)
         → HasMoved items.old.seat (left_changes pending.old ks) result items.new.seat
         (left_changes pending.new ks) }
+    ensures counted { items.new.moved ≡ items.old.moved + result }
 {
     let Some(patch) = pending.take() else {
         return 0;
@@ -102,6 +106,7 @@ fn keep_at(items: &mut Items<Content>, index: usize, found: Option<Box<CheckResu
     ensures counts { counts items.new.list ≡ counts items.old.list }
     ensures room { items.old.spare ≤ items.new.spare }
     ensures moved { result ≡ distance items.old.seat index (index + 1) }
+    ensures counted { items.new.moved ≡ items.old.moved + result }
     ensures seat { items.new.seat ≡ index + 1 }
 {
     let (mut kept, out) = items.exchange(index, Content::default());

@@ -19,7 +19,7 @@ ghost use Rattle.x_follow.specs.Following.{IsToFollow};
 ghost use Rattle.x_follow.specs.Following.{behind};
 ghost use Rattle.x_compile.specs.Known.{known_names};
 ghost use Rattle.x_compile.specs.KeptView.{AreParsed, AreWith, entry_definitions, kept_found};
-ghost use Rattle.x_follow.specs.Moves.{changed_items, moves, place_of, seat_behind};
+ghost use Rattle.x_follow.specs.Moves.{changed_items, moves, splice_of, seat_behind};
 ghost use Rattle.x_follow.specs.Planned.{numbers_of};
 
 use crate::counting::faults_behind;
@@ -70,8 +70,10 @@ pub fn plan_edit(
     ensures room { IfOk result (λ plan. CanCarryOut tokens.new items.new plan) }
     ensures tokens { tokens.new.list ≡ tokens.old.list }
     ensures token_seat { tokens.new.seat ≡ tokens.old.seat }
+    ensures tokens_still { tokens.new.moved ≡ tokens.old.moved }
     ensures items { items.new.entries.list ≡ items.old.entries.list }
     ensures item_seat { items.new.entries.seat ≡ items.old.entries.seat }
+    ensures items_still { items.new.entries.moved ≡ items.old.entries.moved }
     ensures faults { items.new.faults ≡ items.old.faults }
     ensures uses { AreUsed items.new.entries.list items.new.uses }
     ensures lexed { IfOk result
@@ -152,6 +154,7 @@ fn next_tokens(
     ensures room { IfOk result (λ patch. tokens_of.HasRoom tokens.new patch) }
     ensures list { tokens.new.list ≡ tokens.old.list }
     ensures seat { tokens.new.seat ≡ tokens.old.seat }
+    ensures still { tokens.new.moved ≡ tokens.old.moved }
     ensures ticks { IfOk result (λ patch. meter.new.lexed ≡ raised meter.old.lexed (length patch.fresh)) }
     ensures others { meter.new ≡ record meter.old { lexed = meter.new.lexed } }
 {
@@ -185,6 +188,7 @@ fn next_items(
     ensures room { IfOk result (λ fresh. items_of.HasRoom items.new fresh) }
     ensures list { items.new.list ≡ items.old.list }
     ensures seat { items.new.seat ≡ items.old.seat }
+    ensures still { items.new.moved ≡ items.old.moved }
     ensures ticks { IfOk result
         (λ fresh. meter.new.parsed ≡ raised meter.old.parsed (length fresh.fresh)) }
     ensures others { meter.new ≡ record meter.old { parsed = meter.new.parsed } }
@@ -210,9 +214,13 @@ pub fn carry_out(plan: Plan, tokens: &mut Tokens, items: &mut ItemTable, meter: 
     ensures checked { meter.new.checked ≡ meter.old.checked }
     ensures moved { meter.old.moved ≡ 0 → meter.new.moved ≡ distance tokens.old.seat plan.tokens.at
         (plan.tokens.at + plan.tokens.removed) + moves items.old.entries.seat
-        (changed_items (place_of plan.items) (numbers_of plan.found.items)) }
+        (changed_items (splice_of plan.items) (numbers_of plan.found.items)) }
+    ensures tokens_counted { tokens.new.moved ≡ tokens.old.moved
+        + distance tokens.old.seat plan.tokens.at (plan.tokens.at + plan.tokens.removed) }
+    ensures items_counted { items.new.entries.moved ≡ items.old.entries.moved
+        + moves items.old.entries.seat (changed_items (splice_of plan.items) (numbers_of plan.found.items)) }
     ensures item_seat { items.new.entries.seat ≡ seat_behind items.old.entries.seat
-        (changed_items (place_of plan.items) (numbers_of plan.found.items)) }
+        (changed_items (splice_of plan.items) (numbers_of plan.found.items)) }
 {
     let Plan {
         tokens: patch,

@@ -38,12 +38,12 @@ length_field [] = None
 length_field (f ∷ fields) = if is_named f.0 (codes "content-length") then Some f.1 else length_field fields
 
 -- the number that a value of 1 to 9 digits says
-abbrev pub number_of : List ℕ → Option ℕ
-number_of value = if is_number value then Some (digits_value 10 value) else None
+abbrev pub short_number : List ℕ → Option ℕ
+short_number value = if is_number value then Some (digits_value 10 value) else None
 
 -- how many bytes the fields announce
 abbrev pub announced : List (List ℕ × List ℕ) → Option ℕ
-announced fields = option_and_then number_of (length_field fields)
+announced fields = option_and_then short_number (length_field fields)
 
 -- the bytes are a message with this body, and the rest behind it
 pub record IsFramed (bytes body rest : List ℕ) : Type 0 where

@@ -1,5 +1,6 @@
 -- The names of a text that clash, as they are told.
-use Rattle.std.proofs.Common.{◌≡◌, ◌<◌, ◌≤◌, ℕ, List, [], ◌∷◌, Bool, true, false, length, map, nat_eq, true≢false}
+use Rattle.std.proofs.Common.{◌≡◌, ◌<◌, ◌≤◌, ℕ, List, [], ◌∷◌, Bool, true, false, length, map, nat_eq}
+use Rattle.std.proofs.Common.{true≢false}
 use Rattle.std.proofs.Common.{arith, ap, refl, subst, sym, ◌∙◌}
 use Rattle.std.specs.Prelude.{IsTrue, MatchBool}
 use Rattle.std.specs.List.{flat_map}
@@ -15,7 +16,8 @@ use Rattle.x_opening.specs.Opened.{TellsFaults}
 use Rattle.x_opening.specs.declared.opening.FaultStyle.{FaultStyle}
 use Rattle.x_opening.specs.declared.opening.FaultStyle.TheVariants.{Plain, Explained, Coloured}
 use Rattle.x_opening.specs.declared.opening.Opening.{Opening}
-use Rattle.x_generating.specs.Warnings.{AreTold, IsFaulty, IsGood, IsPlain, TellsClashes, TellsThem, are_faults, clashes}
+use Rattle.x_generating.specs.Warnings.{AreTold, IsFaulty, IsGood, IsPlain, TellsClashes, TellsThem}
+use Rattle.x_generating.specs.Warnings.{are_faults, clashes}
 use Rattle.x_generating.specs.Warnings.{faults, tells_clashes}
 
 -- what holds of a compilation, by what does
@@ -80,8 +82,10 @@ pub faulty_so : {known : KnownText} (strict : Bool) (style : FaultStyle) (file t
     → IsTrue strict × Compiles known text (λ items. TellsClashes file text items before after)
 faulty_so strict style file text before after [] is h told = absurd (true≢false (sym is))
 faulty_so true style file text before after (w ∷ ws) is h told =
-    let some : 0 < length (w ∷ ws) = omega arith in
-    (refl, compiles_so text h (λ items are. (w ∷ ws, told_strictly style text items (w ∷ ws) are, some, told)))
+    let some : 0 < length (w ∷ ws) = omega arith in (
+      refl,
+      compiles_so text h (λ items are. (w ∷ ws, told_strictly style text items (w ∷ ws) are, some, told)),
+    )
 faulty_so false style file text before after (w ∷ ws) is h told = absurd (true≢false (sym is))
 
 strictly : (strict : Bool) (ws : List Warning) → are_faults strict ws ≡ false → IsTrue strict → ws ≡ []
@@ -103,20 +107,21 @@ pub plain_so : {known : KnownText} (strict : Bool) (style : FaultStyle) (text : 
 plain_so true style text ws plain is h = strictly true ws is refl
 plain_so false style text ws plain is h = subst (λ s. AreTold false s text h.1 ws) plain h.3
 
-module _ {known : KnownText} (strict : Bool) (how : Opening) (file text : List ℕ) (before after : Stream) where
-  -- nothing is made of a text with faults
-  pub faults_so : Compiles known text (λ items. (0 < length (faults_of text items))
-      × TellsFaults how file text items before after)
-      → Compiles known text (λ items. IsFaulty strict how file text items before after)
-  faults_so h = compiles_so text h (λ items f. faults f.0 f.1)
+module _ {known : KnownText} (strict : Bool) (how : Opening) (file text : List ℕ) (before after : Stream)
+  where
+    -- nothing is made of a text with faults
+    pub faults_so : Compiles known text (λ items. (0 < length (faults_of text items))
+        × TellsFaults how file text items before after)
+        → Compiles known text (λ items. IsFaulty strict how file text items before after)
+    faults_so h = compiles_so text h (λ items f. faults f.0 f.1)
 
-  -- nor of one with clashes, where they count as faults
-  pub clashes_so : IsTrue strict → Compiles known text (λ items. faults_of text items ≡ [])
-      → Compiles known text (λ items. TellsClashes file text items before after)
-      → Compiles known text (λ items. IsFaulty strict how file text items before after)
-  clashes_so counts none h = (
-    h.0,
-    h.1,
-    h.2,
-    clashes counts (of_each text none h.0 h.1 h.2) h.3,
-  )
+    -- nor of one with clashes, where they count as faults
+    pub clashes_so : IsTrue strict → Compiles known text (λ items. faults_of text items ≡ [])
+        → Compiles known text (λ items. TellsClashes file text items before after)
+        → Compiles known text (λ items. IsFaulty strict how file text items before after)
+    clashes_so counts none h = (
+      h.0,
+      h.1,
+      h.2,
+      clashes counts (of_each text none h.0 h.1 h.2) h.3,
+    )

@@ -1,5 +1,6 @@
 -- What stands under the name of an output that took a text as a whole.
-use Rattle.std.proofs.Common.{◌≡◌, ◌∙◌, ℕ, Bool, true, false, IsTrue, if◌then◌else◌, List, [], ◌++◌, Option, Some, None, ap, rules}
+use Rattle.std.proofs.Common.{◌≡◌, ◌∙◌, ℕ, Bool, true, false, IsTrue, if◌then◌else◌, List, [], ◌++◌, Option}
+use Rattle.std.proofs.Common.{Some, None, ap, rules}
 use Rattle.std.specs.Io.KnownBytes.{Appends}
 use Rattle.x_args.specs.declared.status.Status.{Status}
 use Rattle.x_args.specs.declared.status.Status.TheVariants.{Done, Failed}

@@ -24,7 +24,7 @@ use Rattle.x_rules.specs.Results.{AreResults, Outcome, no_names}
 use Rattle.x_rules.specs.Rules.{HasRole, IsNoNumber, number_role}
 use Rattle.x_rules.specs.declared.fault.RuleCode.TheVariants as rule_codes
 use Rattle.x_schema.specs.ProceduresOf as told
-use Rattle.x_schema.specs.ProceduresOf.{AreProceduresBehind, Numbered, Table, number_of, numbers_by}
+use Rattle.x_schema.specs.ProceduresOf.{AreProceduresBehind, Numbered, Table, word_spelled, numbers_by}
 use Rattle.x_schema.specs.ProceduresOf.{numbers_from, procedures_declared, procedures_in, procedures_of}
 use Rattle.x_schema.specs.ProceduresOf.{with_procedure}
 use Rattle.x_schema.specs.Schema.{Schema, procedure_at, same_numbers}
@@ -212,7 +212,7 @@ word_of : (z : ℤ) → is_word_number z ≡ true → (n : ℕ) × (unsigned_wor
 word_of (pos n) is = (n, ap (λ b. cond b (Some n) None) is)
 word_of (negsuc n) is = absurd cc
 
-number_known : (text : List ℕ) → is_word_number (value text) ≡ true → (n : ℕ) × (number_of text ≡ Some n)
+number_known : (text : List ℕ) → is_word_number (value text) ≡ true → (n : ℕ) × (word_spelled text ≡ Some n)
 number_known text is =
     let w = word_of (value text) is in (
       w.0,
@@ -393,7 +393,7 @@ are_there (tree.Program name versions number) p among =
 
 number_has : (definitions : List (Option Definition)) (results : List (Option Outcome)) (item : ℕ)
     (d : Definition) (role : Role) (text : List ℕ) → IsFine definitions results item d → IsThere d role
-    → number_role role ≡ Some text → (n : ℕ) × (number_of text ≡ Some n)
+    → number_role role ≡ Some text → (n : ℕ) × (word_spelled text ≡ Some n)
 number_has definitions results item d role text h at is = number_known text
     (by (is_word_number (value text)) refl)
   where

@@ -19,7 +19,7 @@ use Rattle.x_trees.proofs.AmongLemmas.{among_first, among_more, among_parted}
 use Rattle.x_outline.specs.Bodies.{BodyAt, EnumeratorAt, bodies, enumerators, enumerators_from}
 use Rattle.x_outline.specs.Bodies.{enumerators_in, enumerators_of}
 use Rattle.x_rules.specs.Constants.{Known, known_with, knowns, number_before, number_by, number_given}
-use Rattle.x_rules.specs.Constants.{number_named, number_of, number_seen}
+use Rattle.x_rules.specs.Constants.{number_named, enumerator_number, number_seen}
 use Rattle.x_rules.specs.Results.{Outcome, AreResults, no_names}
 use Rattle.x_rules.specs.Rules.{HasRole}
 use Rattle.x_rules.specs.Views.{View}
@@ -45,8 +45,8 @@ pub known_behind : (see : List ℕ → View) (ks : List Known) (before : Option 
     → IsKnownBehind see ks before es
 known_behind see ks before [] = record { rest = []; is = sym (append-nil ks); names = refl }
 known_behind see ks before (e ∷ es) =
-    let k : Known = record { enumerator = e; number = number_of see ks before e } in
-    let more = known_behind see (ks ++ k ∷ []) (number_of see ks before e) es in
+    let k : Known = record { enumerator = e; number = enumerator_number see ks before e } in
+    let more = known_behind see (ks ++ k ∷ []) (enumerator_number see ks before e) es in
     record {
       rest = k ∷ more.rest;
       is = more.is ∙ append_assoc ks (k ∷ []) more.rest;
@@ -175,18 +175,18 @@ along definitions results item d ks low before (e ∷ es) h same own told up =
     let see = sees definitions results item d in
     let here = own_told definitions results item d e h told.0 in
     let low_word = up.0 in
-    let next : Known = record { enumerator = e; number = number_of see ks before e } in
+    let next : Known = record { enumerator = e; number = enumerator_number see ks before e } in
     let rest = known_behind see ks before (e ∷ es) in
     let is : knowns see (enumerators d) ≡ ks ++ rest.rest = same ∙ rest.is in
     let up_here : Ascends e.word (map (λ k. k.enumerator) rest.rest) = subst (λ l. Ascends e.word l)
     (sym rest.names) (omega arith, up.1) in
     let given = given_same definitions results item d ks rest.rest before told.0.index e.word e.is_first
     e.given h is told.0.word_is up_here told.0.value in
-    let last = known_behind see (ks ++ next ∷ []) (number_of see ks before e) es in
-    let named : number_named (ks ++ next ∷ []) e.name ≡ number_of see ks before e =
+    let last = known_behind see (ks ++ next ∷ []) (enumerator_number see ks before e) es in
+    let named : number_named (ks ++ next ∷ []) e.name ≡ enumerator_number see ks before e =
     more_named ks next e.name ∙ (λ i. cond (fresh (name_in ks e.name) refl here i) (number_named ks e.name)
-    (cond ((bytes_eq-Decides e.name e.name).1 refl i) (number_of see ks before e) None)) in
-    let means : number_meant definitions results e.name ≡ number_of see ks before e =
+    (cond ((bytes_eq-Decides e.name e.name).1 refl i) (enumerator_number see ks before e) None)) in
+    let means : number_meant definitions results e.name ≡ enumerator_number see ks before e =
     own_meant definitions results item d e.name here.at h.are h.fine h.there here.first here.item_is
     here.kind_is
     ∙ h.own e.name
@@ -195,7 +195,7 @@ along definitions results item d ks low before (e ∷ es) h same own told up =
     (in_more ks next e.name ((bytes_eq-Decides e.name e.name).1 refl))
     ∙ named in
     let others = along definitions results item d (ks ++ next ∷ []) (suc e.word)
-    (number_of see ks before e) es h same
+    (enumerator_number see ks before e) es h same
     (own_more definitions item ks next low (suc e.word) (omega (arith, low_word))
     (omega arith) here own) told.1 up.1 in (
       given ∙ sym means,

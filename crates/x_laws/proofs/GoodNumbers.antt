@@ -19,7 +19,7 @@ use Rattle.x_numbers.specs.Numbers.{in_range, is_enum_number, next_number, numbe
 use Rattle.x_trees.proofs.AmongLemmas.{among_first, among_front, among_none, among_rear}
 use Rattle.x_outline.specs.Bodies.{BodyAt, EnumeratorAt, enumerators, enumerators_in, enumerators_of, bodies}
 use Rattle.x_rules.specs.Constants.{Known, is_declared_before, known_with, knowns, limit_of, number_at}
-use Rattle.x_rules.specs.Constants.{number_before, number_by, number_given, number_of, number_seen}
+use Rattle.x_rules.specs.Constants.{number_before, number_by, number_given, enumerator_number, number_seen}
 use Rattle.x_rules.specs.Mentioned.{is_of_faulty, is_unknown}
 use Rattle.x_rules.specs.Results.{Outcome, AreResults, constant_number, constant_of, meaning_at, meaning_of}
 use Rattle.x_rules.specs.Results.{result_at, view_by, view_of, beforehand_meaning, no_names}
@@ -316,19 +316,20 @@ goods : (definitions : List (Option Definition)) (results : List (Option Outcome
 goods definitions results item d ks low before [] h same told up good led = good
 goods definitions results item d ks low before (e ∷ es) h same told up good led =
     let see = sees definitions results item d in
-    let next : Known = record { enumerator = e; number = number_of see ks before e } in
+    let next : Known = record { enumerator = e; number = enumerator_number see ks before e } in
     let rest = known_behind see ks before (e ∷ es) in
     let low_word = up.0 in
     let up_here : Ascends e.word (map (λ k. k.enumerator) rest.rest) = subst (λ l. Ascends e.word l)
     (sym rest.names) (omega arith, up.1) in
     let reached : IsReached definitions results item d ks rest.rest told.0.index e.word = record
     { fine = h; is = same ∙ rest.is; at = told.0.word_is; up = up_here; good = good } in
-    let last = known_behind see (ks ++ next ∷ []) (number_of see ks before e) es in
+    let last = known_behind see (ks ++ next ∷ []) (enumerator_number see ks before e) es in
     let among : IsAmong (knowns see (enumerators d)) next =
     subst (λ l. IsAmong l next) (sym (same ∙ last.is))
     (among_front (ks ++ next ∷ []) last.rest next
     (among_rear ks (next ∷ []) next (among_first next []))) in
-    let past : (z : ℤ) → e.given ≡ None → number_of see ks before e ≡ Some z → is_enum_number z ≡ false
+    let past : (z : ℤ) → e.given ≡ None → enumerator_number see ks before e ≡ Some z
+    → is_enum_number z ≡ false
     → ⊥ = λ z none is outside.
     no_fault definitions results item d e.word rule_codes.Range h
     (inr (inr (inr (record {
@@ -344,8 +345,8 @@ goods definitions results item d ks low before (e ∷ es) h same told up good le
     let good_here = given_good definitions results item d ks rest.rest before told.0.index e.word e.is_first
     e.given reached told.0.value led past in
     goods definitions results item d (ks ++ next ∷ []) (suc e.word)
-    (number_of see ks before e) es h same told.1 up.1 (good_more ks next good good_here)
-    (led_next es (number_of see ks before e) good_here)
+    (enumerator_number see ks before e) es h same told.1 up.1 (good_more ks next good good_here)
+    (led_next es (enumerator_number see ks before e) good_here)
   where
     led_next : (es : List EnumeratorAt) (z : Option ℤ) → IsGood z → IsLed z es
     led_next [] z g = tt

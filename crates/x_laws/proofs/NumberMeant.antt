@@ -20,7 +20,7 @@ use Rattle.x_names.specs.declared.names.Declarer.{Declarer}
 use Rattle.x_names.proofs.DeclarerLaws.{as_found, one_first}
 use Rattle.x_outline.specs.Bodies.{EnumeratorAt, enumerators}
 use Rattle.x_rules.specs.Constants.{Known, known_with, knowns, number_before, number_given, number_named}
-use Rattle.x_rules.specs.Constants.{number_of, number_seen}
+use Rattle.x_rules.specs.Constants.{enumerator_number, number_seen}
 use Rattle.x_rules.specs.Results.{Outcome, AreResults, result_at, view_by, view_of, meaning_at}
 use Rattle.x_rules.specs.Results.{beforehand_meaning, no_names}
 use Rattle.x_rules.specs.Views.{View, Earlier, Own, Later, seen}
@@ -368,20 +368,21 @@ enums_known definitions results item d numbers now ks low before (e ∷ es) h bo
     let see = sees definitions results item d in
     let here = own_told definitions results item d numbers e h told.0 in
     let low_word = up.0 in
-    let z : number_behind now before e ≡ number_of see ks before e =
+    let z : number_behind now before e ≡ enumerator_number see ks before e =
     same_given definitions results item d numbers now ks low e.word before e.is_first e.given h both own
     below up.0 (given_used (gloss d) (told.0.index + 2) e.given told.0.value) in
-    let next : Known = record { enumerator = e; number = number_of see ks before e } in
-    let both' : HasBoth numbers (with_number now e.name (number_of see ks before e)) (ks ++ next ∷ []) =
-    one_more numbers now ks e (number_of see ks before e) (fresh (name_in ks e.name) refl here)
+    let next : Known = record { enumerator = e; number = enumerator_number see ks before e } in
+    let both' : HasBoth numbers (with_number now e.name (enumerator_number see ks before e))
+    (ks ++ next ∷ []) =
+    one_more numbers now ks e (enumerator_number see ks before e) (fresh (name_in ks e.name) refl here)
     (own_free definitions results item d numbers e.name e.word h here) both in
     let rest = enums_known definitions results item d numbers
-    (with_number now e.name (number_of see ks before e)) (ks ++ next ∷ []) (suc e.word)
-    (number_of see ks before e) es h both'
+    (with_number now e.name (enumerator_number see ks before e)) (ks ++ next ∷ []) (suc e.word)
+    (enumerator_number see ks before e) es h both'
     (own_more definitions item ks next low (suc e.word) (omega (arith, low_word)) (omega arith) here own)
     (below_more ks next low (suc e.word) (omega (arith, low_word)) (omega arith) below) told.1 up.1 in
     subst (λ y. AreKnown definitions item numbers (fold (with_number now e.name y) y es)
-    (known_with see (ks ++ next ∷ []) (number_of see ks before e) es)) (sym z) rest
+    (known_with see (ks ++ next ∷ []) (enumerator_number see ks before e) es)) (sym z) rest
   where
     fresh : (b : Bool) → name_in ks e.name ≡ b → IsOwn definitions item e.name e.word
         → name_in ks e.name ≡ false

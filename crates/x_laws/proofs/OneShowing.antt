@@ -76,8 +76,15 @@ cause_other s t a b front unit code h x v y fits e =
     let alike = roles_alike s t (root_job s a).layout (root_job t b).layout (root_job s a).spot
     (root_job t b).spot v h.all layout (same_place s t a b h) in
     let there = same_at s t (roles s (root_job s a).layout (root_job s a).spot v)
-    (roles t (root_job t b).layout (root_job t b).spot v) why.0 why.2 why.1 alike why.3 in
-    (there.0, there.1, there.2, there.3, why.4 ∙ ap (λ n. 4 * n) there.4, sym (there.5 unit) ∙ why.5)
+    (roles t (root_job t b).layout (root_job t b).spot v) why.before why.after why.role alike why.units_are in
+    record {
+      before = there.0;
+      role = there.1;
+      after = there.2;
+      units_are = there.3;
+      place = why.place ∙ ap (λ n. 4 * n) there.4;
+      fault = sym (there.5 unit) ∙ why.fault;
+    }
 
 bad_other : (s t : Schema) (a b : TypeId) (bytes : List ℕ) (at : ℕ) (code : ReadCode) → AlikeIds s t a b
     → IsBadUnit s a bytes at code → IsBadUnit t b bytes at code

@@ -216,7 +216,8 @@ others (a ∷ rest) = (none, both (argument_by glossed true a) _ (argument a) (o
 
 procedure : (p : tree.Procedure) → AllPaired (procedure_by glossed true p)
 procedure p =
-    both (passed_by glossed true (VoidResult ∷ []) p.result) _ (passed (VoidResult ∷ []) p.result (refl, tt)) (
+    both (passed_by glossed true (VoidResult ∷ []) p.result) _
+    (passed (VoidResult ∷ []) p.result (refl, tt)) (
       quiet (refl, tt),
       (
         none,

@@ -20,7 +20,7 @@ use Rattle.x_names.specs.declared.names.Declarer.{Declarer}
 use Rattle.x_names.proofs.DeclarerLaws.{found_is_first}
 use Rattle.x_outline.specs.Bodies.{EnumeratorAt, enumerators}
 use Rattle.x_rules.specs.Constants.{Known, is_declared_before, known_with, knowns, limit_of, number_at}
-use Rattle.x_rules.specs.Constants.{number_before, number_named, number_of, number_seen}
+use Rattle.x_rules.specs.Constants.{number_before, number_named, enumerator_number, number_seen}
 use Rattle.x_rules.specs.Mentioned.{is_constant, is_unknown}
 use Rattle.x_rules.specs.Results.{Outcome, AreResults, result_at, view_by, view_of, meaning_at, meaning_of}
 use Rattle.x_rules.specs.Results.{beforehand_meaning, constant_number, no_names}
@@ -41,9 +41,9 @@ pub known_enumerators : (see : List ℕ → View) (ks : List Known) (before : Op
     → map (λ k. k.enumerator) (known_with see ks before es) ≡ map (λ k. k.enumerator) ks ++ es
 known_enumerators see ks before [] = sym (append-nil (map (λ k. k.enumerator) ks))
 known_enumerators see ks before (e ∷ es) =
-    known_enumerators see (ks ++ record { enumerator = e; number = number_of see ks before e } ∷ [])
-    (number_of see ks before e) es
-    ∙ ap (λ l. l ++ es) (more ks (record { enumerator = e; number = number_of see ks before e }))
+    known_enumerators see (ks ++ record { enumerator = e; number = enumerator_number see ks before e } ∷ [])
+    (enumerator_number see ks before e) es
+    ∙ ap (λ l. l ++ es) (more ks (record { enumerator = e; number = enumerator_number see ks before e }))
     ∙ append_assoc (map (λ k. k.enumerator) ks) (e ∷ []) es
   where
     more : (ks : List Known) (k : Known) → map (λ x. x.enumerator) (ks ++ k ∷ []) ≡ map

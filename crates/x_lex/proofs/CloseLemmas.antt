@@ -1,5 +1,6 @@
 -- The first `*/` of a list of bytes.
-use Rattle.std.proofs.Common.{◌≡◌, ℕ, zero, suc, ◌+◌, ◌<◌, ◌≤◌, ◌⊎◌, inl, inr, Bool, true, false, cond, List, [], ◌∷◌, length, get_or, Option, None, Some, arith, refl, ap, lit<, add-zero}
+use Rattle.std.proofs.Common.{◌≡◌, ℕ, zero, suc, ◌+◌, ◌<◌, ◌≤◌, ◌⊎◌, inl, inr, Bool, true, false, cond, List}
+use Rattle.std.proofs.Common.{[], ◌∷◌, length, get_or, Option, None, Some, arith, refl, ap, lit<, add-zero}
 use Rattle.std.proofs.lemmas.Bool.{cases_order}
 use Rattle.std.proofs.lemmas.Bool.Decides.{nat_tests}
 use Rattle.memchr.specs.Find.{OccursAt, FindsNeedle}
@@ -12,7 +13,8 @@ IsFirstClose xs None = (k : ℕ) → OccursAt xs close k → ⊥
 IsFirstClose xs (Some i) = OccursAt xs close i × ((k : ℕ) → k < i → OccursAt xs close k → ⊥)
 
 -- `OccursAt` by the two bytes
-pub occurs_bytes : (xs : List ℕ) (k : ℕ) → OccursAt xs close k → (get_or xs k 0 ≡ 42) × (get_or xs (k + 1) 0 ≡ 47)
+pub occurs_bytes : (xs : List ℕ) (k : ℕ) → OccursAt xs close k
+    → (get_or xs k 0 ≡ 42) × (get_or xs (k + 1) 0 ≡ 47)
 occurs_bytes xs k h =
     let a : get_or xs (k + 0) 0 ≡ 42 = h.reads 0 (omega arith) in
     let b : get_or xs (k + 1) 0 ≡ 47 = h.reads 1 (omega arith) in
@@ -29,7 +31,8 @@ bytes_occur xs k a b =
     let within = stands xs (k + 1) 47 b (lit< tt) in
     record { fits = omega (arith, within); reads = λ j lt. reads_at xs k a b j lt }
   where
-    reads_at : (xs : List ℕ) (k : ℕ) → get_or xs k 0 ≡ 42 → get_or xs (k + 1) 0 ≡ 47 → (j : ℕ) → j < 2 → get_or xs (k + j) 0 ≡ get_or close j 0
+    reads_at : (xs : List ℕ) (k : ℕ) → get_or xs k 0 ≡ 42 → get_or xs (k + 1) 0 ≡ 47 → (j : ℕ) → j < 2
+        → get_or xs (k + j) 0 ≡ get_or close j 0
     reads_at xs k a b zero lt = rw add-zero a
     reads_at xs k a b (suc zero) lt = b
     reads_at xs k a b (suc (suc j)) lt = absurd (omega arith)
@@ -44,8 +47,12 @@ unshift b bs k h = let e = occurs_bytes bs k h in bytes_occur (b ∷ bs) (suc k)
 not_here : (b : ℕ) (bs : List ℕ) → closes b bs ≡ false → OccursAt (b ∷ bs) close 0 → ⊥
 not_here b bs fails h = let e = occurs_bytes (b ∷ bs) 0 h in grind (arith, nat_tests, e.0, e.1)
 
-step : (b : ℕ) (bs : List ℕ) (here : Bool) (r : Option ℕ) → closes b bs ≡ here → IsFirstClose bs r → IsFirstClose (b ∷ bs) (cond here (Some 0) (later r))
-step b bs true r passes h = (bytes_occur (b ∷ bs) 0 (grind (arith, nat_tests)) (grind (arith, nat_tests)), λ k lt. absurd (omega arith))
+step : (b : ℕ) (bs : List ℕ) (here : Bool) (r : Option ℕ) → closes b bs ≡ here → IsFirstClose bs r
+    → IsFirstClose (b ∷ bs) (cond here (Some 0) (later r))
+step b bs true r passes h = (
+  bytes_occur (b ∷ bs) 0 (grind (arith, nat_tests)) (grind (arith, nat_tests)),
+  λ k lt. absurd (omega arith),
+)
 step b bs false None fails h = none
   where
     none : (k : ℕ) → OccursAt (b ∷ bs) close k → ⊥
@@ -76,5 +83,7 @@ same_first_close xs (Some i) (Some j) h k = ap Some (order (cases_order i j))
 
 -- what a search for `*/` finds
 pub found_close : (xs : List ℕ) (r : Option ℕ) → FindsNeedle xs close 0 r → r ≡ first_close xs
-found_close xs None h = same_first_close xs None (first_close xs) (λ k o. h k (omega arith) (let f : k + 2 ≤ length xs = o.fits in omega (arith, f)) o) (first_close_is xs)
-found_close xs (Some i) h = same_first_close xs (Some i) (first_close xs) (h.1, λ k lt o. h.0.before k (omega arith) lt o) (first_close_is xs)
+found_close xs None h = same_first_close xs None (first_close xs)
+    (λ k o. h k (omega arith) (let f : k + 2 ≤ length xs = o.fits in omega (arith, f)) o) (first_close_is xs)
+found_close xs (Some i) h = same_first_close xs (Some i) (first_close xs)
+    (h.1, λ k lt o. h.0.before k (omega arith) lt o) (first_close_is xs)

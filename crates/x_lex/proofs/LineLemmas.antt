@@ -13,6 +13,12 @@ in_line b h = grind (arith, nat_tests)
 ends_line : (b : ℕ) → is_byte 10 b ≡ true → is_in_line b ≡ false
 ends_line b h = grind (arith, nat_tests)
 
-pub found_line : (rest : List ℕ) (r : Option ℕ) → IsFirstByte (is_byte 10) rest r → unwrap_or r (length rest) ≡ prefix_len is_in_line rest
-found_line rest None h = sym (prefix_len_is is_in_line rest (length rest) 0 (omega arith) (λ k lt. in_line (get_or rest k 0) (h k (omega arith) lt)) (λ lt. absurd (omega arith)))
-found_line rest (Some i) h = sym (prefix_len_is is_in_line rest i 0 (let l = h.0.high in omega (arith, l)) (λ k lt. in_line (get_or rest k 0) (h.0.before k (omega arith) lt)) (λ lt. ends_line (get_or rest i 0) h.1))
+pub found_line : (rest : List ℕ) (r : Option ℕ) → IsFirstByte (is_byte 10) rest r
+    → unwrap_or r (length rest) ≡ prefix_len is_in_line rest
+found_line rest None h =
+    sym (prefix_len_is is_in_line rest (length rest) 0 (omega arith)
+    (λ k lt. in_line (get_or rest k 0) (h k (omega arith) lt)) (λ lt. absurd (omega arith)))
+found_line rest (Some i) h =
+    sym (prefix_len_is is_in_line rest i 0 (let l = h.0.high in omega (arith, l))
+    (λ k lt. in_line (get_or rest k 0) (h.0.before k (omega arith) lt))
+    (λ lt. ends_line (get_or rest i 0) h.1))

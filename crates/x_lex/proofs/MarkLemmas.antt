@@ -1,5 +1,6 @@
 -- The search for a mark: the first bytes of a word leave one candidate.
-use Rattle.std.proofs.Common.{◌≡◌, ◌≢◌, ℕ, ◌<◌, Bool, true, false, cond, List, [], ◌∷◌, map, length, Option, None, Some, refl, sym, ap, ◌∙◌, lit<}
+use Rattle.std.proofs.Common.{◌≡◌, ◌≢◌, ℕ, ◌<◌, Bool, true, false, cond, List, [], ◌∷◌, map, length, Option}
+use Rattle.std.proofs.Common.{None, Some, refl, sym, ap, ◌∙◌, lit<}
 use Rattle.std.specs.Prelude.{if◌then◌else◌, option_map, is_some, not, ◌||◌, ◌==◌, slice_index_or}
 use Rattle.std.specs.List.{find}
 use Rattle.std.specs.Str.{bytes_eq}
@@ -36,7 +37,8 @@ same_table = refl
 pub within : (mark : Mark) → place_of mark < length MARKS
 within mark = (stands mark).within
 
-pub text_in_table : (mark : Mark) → slice_index_or (map (λ entry. entry.0.now) MARKS) (place_of mark) [] ≡ text_of mark
+pub text_in_table : (mark : Mark) → slice_index_or (map (λ entry. entry.0.now) MARKS) (place_of mark) []
+    ≡ text_of mark
 unfolding text_of
 text_in_table mark = ap (λ texts. slice_index_or texts (place_of mark) []) same_table
 
@@ -58,17 +60,21 @@ abbrev Finds : {E : Type 0} → (E → Mark) → List ℕ → Option E → Type 
 Finds mark word None = Unit {0}
 Finds mark word (Some e) = candidate word ≡ Some (mark e)
 
-at_head : {E : Type 0} (text : E → List ℕ) (mark : E → Mark) (word : List ℕ) (e : E) (rest : Option E) (b : Bool) → bytes_eq (text e) word ≡ b
+at_head : {E : Type 0} (text : E → List ℕ) (mark : E → Mark) (word : List ℕ) (e : E) (rest : Option E)
+    (b : Bool) → bytes_eq (text e) word ≡ b
     → candidate (text e) ≡ Some (mark e) → Finds mark word rest → Finds mark word (cond b (Some e) rest)
-at_head text mark word e rest true same is rear = ap candidate (sym ((bytes_eq-Decides (text e) word).0 same)) ∙ is
+at_head text mark word e rest true same is rear =
+    ap candidate (sym ((bytes_eq-Decides (text e) word).0 same)) ∙ is
 at_head text mark word e rest false same is rear = rear
 
 -- where each text of a table has its mark as candidate, a search finds the candidate or nothing
-finds : {E : Type 0} (text : E → List ℕ) (mark : E → Mark) (word : List ℕ) (es : List E) → map (λ e. candidate (text e)) es ≡ map (λ e. Some (mark e)) es
+finds : {E : Type 0} (text : E → List ℕ) (mark : E → Mark) (word : List ℕ) (es : List E)
+    → map (λ e. candidate (text e)) es ≡ map (λ e. Some (mark e)) es
     → Finds mark word (find (λ e. bytes_eq (text e) word) es)
 finds text mark word [] all = tt
 finds text mark word (e ∷ es) all =
-    at_head text mark word e (find (λ e. bytes_eq (text e) word) es) (bytes_eq (text e) word) refl (ap (head_or None) all) (finds text mark word es (ap tail_of all))
+    at_head text mark word e (find (λ e. bytes_eq (text e) word) es) (bytes_eq (text e) word) refl
+    (ap (head_or None) all) (finds text mark word es (ap tail_of all))
 
 -- the texts of the table are those of its marks
 same_texts : map (λ entry. text_of entry.1) spellings ≡ map (λ entry. entry.0) spellings
@@ -80,32 +86,39 @@ abbrev IsText : {E : Type 0} → (E → Mark) → List ℕ → Option E → Type
 IsText mark word None = Unit {0}
 IsText mark word (Some e) = text_of (mark e) ≡ word
 
-text_at_head : {E : Type 0} (text : E → List ℕ) (mark : E → Mark) (word : List ℕ) (e : E) (rest : Option E) (b : Bool) → bytes_eq (text e) word ≡ b
+text_at_head : {E : Type 0} (text : E → List ℕ) (mark : E → Mark) (word : List ℕ) (e : E) (rest : Option E)
+    (b : Bool) → bytes_eq (text e) word ≡ b
     → text_of (mark e) ≡ text e → IsText mark word rest → IsText mark word (cond b (Some e) rest)
 text_at_head text mark word e rest true same is rear = is ∙ (bytes_eq-Decides (text e) word).0 same
 text_at_head text mark word e rest false same is rear = rear
 
-texts : {E : Type 0} (text : E → List ℕ) (mark : E → Mark) (word : List ℕ) (es : List E) → map (λ e. text_of (mark e)) es ≡ map text es
+texts : {E : Type 0} (text : E → List ℕ) (mark : E → Mark) (word : List ℕ) (es : List E)
+    → map (λ e. text_of (mark e)) es ≡ map text es
     → IsText mark word (find (λ e. bytes_eq (text e) word) es)
 texts text mark word [] all = tt
 texts text mark word (e ∷ es) all =
-    text_at_head text mark word e (find (λ e. bytes_eq (text e) word) es) (bytes_eq (text e) word) refl (ap (head_or []) all) (texts text mark word es (ap tail_of all))
+    text_at_head text mark word e (find (λ e. bytes_eq (text e) word) es) (bytes_eq (text e) word) refl
+    (ap (head_or []) all) (texts text mark word es (ap tail_of all))
 
 -- a mark that is written so is the candidate
 found : (word : List ℕ) (mark : Mark) → mark_of word ≡ Some mark → candidate word ≡ Some mark
 unfolding mark_of
-found word mark is = by_entry (λ entry. entry.1) (find (λ entry. bytes_eq entry.0 word) spellings) (finds (λ entry. entry.0) (λ entry. entry.1) word spellings candidates) is
+found word mark is = by_entry (λ entry. entry.1) (find (λ entry. bytes_eq entry.0 word) spellings)
+    (finds (λ entry. entry.0) (λ entry. entry.1) word spellings candidates) is
   where
-    by_entry : {E : Type 0} (name : E → Mark) (o : Option E) → Finds name word o → option_map name o ≡ Some mark → candidate word ≡ Some mark
+    by_entry : {E : Type 0} (name : E → Mark) (o : Option E) → Finds name word o
+        → option_map name o ≡ Some mark → candidate word ≡ Some mark
     by_entry name None h e = absurd (none-some mark e)
     by_entry name (Some x) h e = h ∙ e
 
 -- and it is written so
 written : (word : List ℕ) (mark : Mark) → mark_of word ≡ Some mark → text_of mark ≡ word
 unfolding mark_of
-written word mark is = by_entry (λ entry. entry.1) (find (λ entry. bytes_eq entry.0 word) spellings) (texts (λ entry. entry.0) (λ entry. entry.1) word spellings same_texts) is
+written word mark is = by_entry (λ entry. entry.1) (find (λ entry. bytes_eq entry.0 word) spellings)
+    (texts (λ entry. entry.0) (λ entry. entry.1) word spellings same_texts) is
   where
-    by_entry : {E : Type 0} (name : E → Mark) (o : Option E) → IsText name word o → option_map name o ≡ Some mark → text_of mark ≡ word
+    by_entry : {E : Type 0} (name : E → Mark) (o : Option E) → IsText name word o
+        → option_map name o ≡ Some mark → text_of mark ≡ word
     by_entry name None h e = absurd (none-some mark e)
     by_entry name (Some x) h e = ap text_of (sym (same_Some (name x) mark e)) ∙ h
 
@@ -118,15 +131,20 @@ none_left word none = by_mark (mark_of word) (λ mark is. found word mark is)
     by_mark (Some mark) h = absurd (none-some mark (sym none ∙ h mark refl))
 
 -- else the candidate is the mark, if it is written so
-pub one_left : (word : List ℕ) (mark : Mark) → candidate word ≡ Some mark → then_some (bytes_eq (text_of mark) word) mark ≡ mark_of word
+pub one_left : (word : List ℕ) (mark : Mark) → candidate word ≡ Some mark
+    → then_some (bytes_eq (text_of mark) word) mark ≡ mark_of word
 one_left word mark is = by_test (bytes_eq (text_of mark) word) refl
   where
     by_mark : (o : Option Mark) → mark_of word ≡ o → bytes_eq (text_of mark) word ≡ false → None ≡ o
     by_mark None h differs = refl
-    by_mark (Some other) h differs = absurd (false≢true (sym differs ∙ (bytes_eq-Decides (text_of mark) word).1 (ap text_of (sym (same_Some other mark (sym (found word other h) ∙ is))) ∙ written word other h)))
+    by_mark (Some other) h differs =
+        absurd (false≢true (sym differs
+        ∙ (bytes_eq-Decides (text_of mark) word).1
+        (ap text_of (sym (same_Some other mark (sym (found word other h) ∙ is))) ∙ written word other h)))
 
     by_test : (b : Bool) → bytes_eq (text_of mark) word ≡ b → then_some b mark ≡ mark_of word
-    by_test true same = sym (ap mark_of (sym ((bytes_eq-Decides (text_of mark) word).0 same)) ∙ (stands mark).found)
+    by_test true same = sym (ap mark_of (sym ((bytes_eq-Decides (text_of mark) word).0 same))
+        ∙ (stands mark).found)
     by_test false differs = by_mark (mark_of word) refl differs
 
 -- a word of one byte is punctuation, all others are keywords
@@ -139,21 +157,24 @@ as_keyword (b ∷ c ∷ bs) longer = refl
 pub no_word_left : (word : List ℕ) → length word ≢ 1 → keyword word ≡ None → None ≡ mark_of word
 no_word_left word longer none = none_left word (sym (as_keyword word longer) ∙ none)
 
-pub one_word_left : (word : List ℕ) (mark : Mark) → length word ≢ 1 → keyword word ≡ Some mark → then_some (bytes_eq (text_of mark) word) mark ≡ mark_of word
+pub one_word_left : (word : List ℕ) (mark : Mark) → length word ≢ 1 → keyword word ≡ Some mark
+    → then_some (bytes_eq (text_of mark) word) mark ≡ mark_of word
 one_word_left word mark longer is = one_left word mark (sym (as_keyword word longer) ∙ is)
 
 -- what a search may find is the byte alone
 IsByte : ℕ → Option Mark → Type 0
 IsByte b o = (mark : Mark) → o ≡ Some mark → text_of mark ≡ b ∷ []
 
-is_byte_if : (b k : ℕ) (mark : Mark) (rest : Option Mark) (test : Bool) → (b == k) ≡ test → text_of mark ≡ k ∷ [] → IsByte b rest
+is_byte_if : (b k : ℕ) (mark : Mark) (rest : Option Mark) (test : Bool) → (b == k) ≡ test
+    → text_of mark ≡ k ∷ [] → IsByte b rest
     → IsByte b (if test then Some mark else rest)
 unfolding IsByte
 is_byte_if b k mark rest true is first others other same =
     ap text_of (sym (same_Some mark other same)) ∙ first ∙ ap (λ n. n ∷ []) (sym (eqb-true b k is))
 is_byte_if b k mark rest false is first others other same = others other same
 
-is_byte_at : (b k : ℕ) (mark : Mark) (rest : Option Mark) → text_of mark ≡ k ∷ [] → IsByte b rest → IsByte b (if b == k then Some mark else rest)
+is_byte_at : (b k : ℕ) (mark : Mark) (rest : Option Mark) → text_of mark ≡ k ∷ [] → IsByte b rest
+    → IsByte b (if b == k then Some mark else rest)
 is_byte_at b k mark rest first others = is_byte_if b k mark rest (b == k) refl first others
 
 is_byte_none : (b : ℕ) → IsByte b None
@@ -186,7 +207,8 @@ of_byte b = by_mark (punctuation b) refl
     by_mark : (o : Option Mark) → punctuation b ≡ o → o ≡ mark_of (b ∷ [])
     by_mark None is = none_left (b ∷ []) is
     by_mark (Some mark) is =
-        ap (λ test. then_some test mark) (sym ((bytes_eq-Decides (text_of mark) (b ∷ [])).1 (is_byte b mark is))) ∙ one_left (b ∷ []) mark is
+        ap (λ test. then_some test mark)
+        (sym ((bytes_eq-Decides (text_of mark) (b ∷ [])).1 (is_byte b mark is))) ∙ one_left (b ∷ []) mark is
 
 -- a byte of punctuation begins no other word, nor white space
 pub punct_apart : (b : ℕ) → is_punct b ≡ true → is_apart (b ∷ []) ≡ true

@@ -1,11 +1,12 @@
 -- There is one place where the old tokens hold again, and so one patch.
-use Rattle.std.proofs.Common.{◌≡◌, ℕ, ◌+◌, ◌<◌, ◌≤◌, ◌⊎◌, inl, inr, ⊎_elim, true, List, ◌++◌, length, take, drop, arith, sym, ap, subst, ◌∙◌, length-append, length-take-le, length-drop}
+use Rattle.std.proofs.Common.{◌≡◌, ℕ, ◌+◌, ◌<◌, ◌≤◌, ◌⊎◌, inl, inr, ⊎_elim, true, List, ◌++◌, length, take}
+use Rattle.std.proofs.Common.{drop, arith, sym, ap, subst, ◌∙◌, length-append, length-take-le, length-drop}
 use Rattle.std.proofs.lemmas.Bool.{cases_order}
 use Rattle.x_text.specs.Edits.{Change, edited_by}
 use Rattle.x_lex.specs.declared.kind.Kind.{Kind}
 use Rattle.x_lex.specs.Tiling.{AreTokens, end_of}
 use Rattle.x_lex.specs.TokenList.{TokenPatch, patched}
-use Rattle.x_lex.specs.Relex.{Agrees, IsMeeting, IsFront, IsPatch, old_place, fresh, kept}
+use Rattle.x_lex.specs.Relex.{Agrees, IsMeeting, IsFront, IsPatch, old_place, fresh, kept_tokens}
 use Rattle.x_lex.proofs.TilingLemmas.{same_tiles}
 use Rattle.x_lex.proofs.SpanLemmas.{span_tiles}
 use Rattle.x_lex.proofs.EndLemmas.{end_le_span, end_mono}
@@ -29,11 +30,14 @@ module _ (change : Change) (ts us : List (Kind × ℕ)) (tiles : AreTokens (edit
 
   pub same_meeting : (q r : ℕ) → IsMeeting change ts us q → IsMeeting change ts us r → q ≡ r
   same_meeting q r h k =
-      ⊎_elim (λ e. e) (λ o. ⊎_elim (λ lt. absurd (not_behind q r h k lt)) (λ gt. absurd (not_behind r q k h gt)) o) (cases_order q r)
+      ⊎_elim (λ e. e) (λ o. ⊎_elim (λ lt. absurd (not_behind q r h k lt))
+      (λ gt. absurd (not_behind r q k h gt)) o) (cases_order q r)
 
 -- as many tokens end before a place
 same_front : (ts : List (Kind × ℕ)) (a x y : ℕ) → IsFront ts a x → IsFront ts a y → x ≡ y
-same_front ts a x y h k = ⊎_elim (λ e. e) (λ o. ⊎_elim (λ lt. absurd (not_less x y h k lt)) (λ gt. absurd (not_less y x k h gt)) o) (cases_order x y)
+same_front ts a x y h k =
+    ⊎_elim (λ e. e) (λ o. ⊎_elim (λ lt. absurd (not_less x y h k lt)) (λ gt. absurd (not_less y x k h gt)) o)
+    (cases_order x y)
   where
     not_less : (i j : ℕ) → IsFront ts a i → IsFront ts a j → i < j → ⊥
     not_less i j f g lt =
@@ -44,14 +48,16 @@ same_front ts a x y h k = ⊎_elim (λ e. e) (λ o. ⊎_elim (λ lt. absurd (not
         omega (arith, next, before, mono)
 
 -- how many tokens a patch keeps
-kept_length : (ts : List (Kind × ℕ)) (at removed : ℕ) → at + removed ≤ length ts → length (take at ts ++ drop (at + removed) ts) + removed ≡ length ts
+kept_length : (ts : List (Kind × ℕ)) (at removed : ℕ) → at + removed ≤ length ts
+    → length (take at ts ++ drop (at + removed) ts) + removed ≡ length ts
 kept_length ts at removed within =
     let l = length-append (take at ts) (drop (at + removed) ts) in
     let t = length-take-le at ts (omega arith) in
     let d = length-drop (at + removed) ts in
     omega (arith, l, t, d)
 
-pub same_patch : (change : Change) (ts : List (Kind × ℕ)) (p q : TokenPatch) → IsPatch change ts p → IsPatch change ts q → p ≡ q
+pub same_patch : (change : Change) (ts : List (Kind × ℕ)) (p q : TokenPatch) → IsPatch change ts p
+    → IsPatch change ts q → p ≡ q
 same_patch change ts p q h k = λ i. record { at = at i; removed = removed i; start = start i; fresh = news i }
   where
     at : p.at ≡ q.at
@@ -64,14 +70,16 @@ same_patch change ts p q h k = λ i. record { at = at i; removed = removed i; st
     tokens = same_tiles true (edited_by change) (patched ts p) (patched ts q) h.tokens k.tokens
 
     place : h.place ≡ k.place
-    place = same_meeting change ts (patched ts p) h.tokens h.place k.place h.meeting (subst (λ us. IsMeeting change ts us k.place) (sym tokens) k.meeting)
+    place = same_meeting change ts (patched ts p) h.tokens h.place k.place h.meeting
+        (subst (λ us. IsMeeting change ts us k.place) (sym tokens) k.meeting)
 
     news : p.fresh ≡ q.fresh
     news = h.fresh_are ∙ (λ i. fresh change.start (place i) (tokens i)) ∙ sym k.fresh_are
 
     removed : p.removed ≡ q.removed
     removed =
-        let same = ap length (h.kept_are ∙ ap (λ r. kept change.start (old_place change r) ts) place ∙ sym k.kept_are) in
+        let same = ap length (h.kept_are ∙ ap (λ r. kept_tokens change.start (old_place change r) ts) place
+        ∙ sym k.kept_are) in
         let left = kept_length ts p.at p.removed h.among in
         let right = kept_length ts q.at q.removed k.among in
         omega (arith, same, left, right)

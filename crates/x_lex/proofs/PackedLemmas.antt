@@ -37,7 +37,11 @@ kind_back kinds.BadNumber = refl
 kind_back kinds.Punct = refl
 kind_back kinds.BadByte = refl
 
-pub unpacked : (kind : Kind) (length : ℕ) → ◌≡◌ {A = Kind × ℕ} (kind_of ((length * 16 + tag_of the_type kind) % 16), (length * 16 + tag_of the_type kind) / 16) (kind, length)
+pub unpacked : (kind : Kind) (length : ℕ)
+    → ◌≡◌ {A = Kind × ℕ} (
+      kind_of ((length * 16 + tag_of the_type kind) % 16),
+      (length * 16 + tag_of the_type kind) / 16,
+    ) (kind, length)
 unpacked kind length =
     let number = tag_of the_type kind in
     let same = ap kind_of (mod-mul-add length 16 number (small kind)) ∙ kind_back kind in

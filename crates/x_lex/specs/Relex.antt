@@ -52,8 +52,8 @@ kept_from a q at (t ∷ ts) =
     else kept_from a q (at + t.1) ts
 
 -- those of the tokens of the old text, where q is the old place of the meeting place
-abbrev pub kept : ℕ → ℕ → List (Kind × ℕ) → List (Kind × ℕ)
-kept a q ts = kept_from a q 0 ts
+abbrev pub kept_tokens : ℕ → ℕ → List (Kind × ℕ) → List (Kind × ℕ)
+kept_tokens a q ts = kept_from a q 0 ts
 
 -- x is how many of the tokens end before a
 abbrev pub IsFront : List (Kind × ℕ) → ℕ → ℕ → Type 0
@@ -70,4 +70,4 @@ pub record IsPatch (change : Change) (ts : List (Kind × ℕ)) (patch : TokenPat
   pub meeting : IsMeeting change ts (patched ts patch) place
   pub fresh_are : patch.fresh ≡ fresh change.start place (patched ts patch)
   pub kept_are : take patch.at ts ++ drop (patch.at + patch.removed) ts
-      ≡ kept change.start (old_place change place) ts
+      ≡ kept_tokens change.start (old_place change place) ts

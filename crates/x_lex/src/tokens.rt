@@ -175,6 +175,7 @@ impl Tokens {
     pub fn reserve(&mut self, patch: &Patch) -> Result<(), NoMemory>
         ensures list { self.new.list ≡ self.old.list }
         ensures seat { self.new.seat ≡ self.old.seat }
+        ensures still { self.new.moved ≡ self.old.moved }
         ensures ok { OnOk result (HasRoom self.new patch.now) }
         ensures full { OnErr result (self.old.spare < length patch.now.fresh) }
         ensures room { self.old.spare ≤ self.new.spare }
@@ -190,6 +191,7 @@ impl Tokens {
         ensures list { self.new.list ≡ patched self.old.list patch }
         ensures seat { self.new.seat ≡ patch.at + length patch.fresh }
         ensures moved { result ≡ distance self.old.seat patch.at (patch.at + patch.removed) }
+        ensures counted { self.new.moved ≡ self.old.moved + result }
         ensures room { self.old.spare + patch.removed ≤ self.new.spare + length patch.fresh }
     {
         self.entries.put(patch.into_entries())

@@ -1,3 +1,4 @@
+pub mod CountWalks
 pub mod LengthLemmas
 pub mod ListLemmas
 pub mod PassLemmas

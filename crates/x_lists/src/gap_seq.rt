@@ -4,7 +4,8 @@ ghost use Rattle.std.specs.Prelude.{drop, slice_get, slice_set, option_copied};
 ghost use Rattle.std.specs.List.{splice};
 ghost use Rattle.x_lists.specs.Seqs.{distance};
 
-use super::shift::{append_in_room, seek};
+use super::moves::Moves;
+use super::shift::{append_in_room, push_in_room, seek};
 use crate::{GapIter, NoMemory, Seq};
 use std::alloc::Global;
 use std::marker::Model;
@@ -18,6 +19,7 @@ pub struct GapSeq<T> {
     front: Vec<T>,
     /// The entries behind the seat, the last of them first.
     rear: Vec<T>,
+    moves: Moves,
 }
 
 impl<T> Model for GapSeq<T> {
@@ -30,6 +32,7 @@ impl<T> Model for GapSeq<T> {
       list = s.front.items ++ reverse s.rear.items;
       seat = vec_len s.front;
       spare = min (vec_capacity s.front) (vec_capacity s.rear) - (vec_len s.front + vec_len s.rear);
+      moved = s.moves.total;
     } };
 
     // So that entries can go from stack to stack.
@@ -40,11 +43,12 @@ impl<T> Model for GapSeq<T> {
 impl<T> GapSeq<T> {
     /// The empty list, which has no room yet.
     pub fn new(alloc: Global) -> GapSeq<T>
-        ensures { result ≡ record { list = []; seat = 0; spare = 0 } }
+        ensures { result ≡ record { list = []; seat = 0; spare = 0; moved = 0 } }
     {
         GapSeq {
             front: Vec::new(alloc),
             rear: Vec::new(alloc),
+            moves: Moves::none(),
         }
     }
 
@@ -82,6 +86,7 @@ impl<T: Drop> GapSeq<T> {
     pub fn from_entries(alloc: Global, entries: Vec<T>) -> Result<GapSeq<T>, NoMemory>
         ensures list { IfOk result (λ s. s.list ≡ entries.items) }
         ensures seat { IfOk result (λ s. s.seat ≡ length entries.items) }
+        ensures moved { IfOk result (λ s. s.moved ≡ 0) }
         ensures no_memory { entries.items ≡ [] → IsOk result }
     {
         let mut rear = Vec::new(alloc);
@@ -89,6 +94,7 @@ impl<T: Drop> GapSeq<T> {
         Ok(GapSeq {
             front: entries,
             rear,
+            moves: Moves::none(),
         })
     }
 
@@ -100,14 +106,20 @@ impl<T: Drop> GapSeq<T> {
         ensures list { self.new.list ≡ slice_set self.old.list at new }
         ensures seat { self.new.seat ≡ at + 1 }
         ensures moved { result.1 ≡ distance self.old.seat at (at + 1) }
+        ensures counted { self.new.moved ≡ self.old.moved + result.1 }
         ensures room { self.old.spare ≤ self.new.spare }
     {
-        let seat = self.front.len();
-        let moved = seek(&mut self.front, &mut self.rear, at + 1);
-        // The entry that goes is none of those that are kept.
-        let kept = if seat <= at { moved - 1 } else { moved };
-        let out = mem::replace(&mut self.front[at], new);
-        (out, kept as u64)
+        if at < self.front.len() {
+            let moved = seek(&mut self.front, &mut self.rear, &mut self.moves, at + 1);
+            let out = mem::replace(&mut self.front[at], new);
+            return (out, moved as u64);
+        }
+        let moved = seek(&mut self.front, &mut self.rear, &mut self.moves, at);
+        let Some(out) = self.rear.pop() else {
+            unreachable!();
+        };
+        push_in_room(&mut self.front, new);
+        (out, moved as u64)
     }
 }
 
@@ -118,6 +130,8 @@ impl<T: Drop> Seq<T> for GapSeq<T> {
     ghost list = { λ s. s.list };
 
     ghost spare = { λ s. s.spare };
+
+    ghost moved = { λ s. s.moved };
 
     ghost moves = { λ s at remove. distance s.seat at (at + remove) };
 
@@ -145,6 +159,7 @@ impl<T: Drop> Seq<T> for GapSeq<T> {
     fn reserve(&mut self, extra: usize) -> Result<(), NoMemory>
         ensures list { self.new.list ≡ self.old.list }
         ensures seat { self.new.seat ≡ self.old.seat }
+        ensures still { self.new.moved ≡ self.old.moved }
         ensures ok { OnOk result (extra ≤ self.new.spare) }
         ensures full { OnErr result (self.old.spare < extra) }
         ensures room { self.old.spare ≤ self.new.spare }
@@ -162,12 +177,13 @@ impl<T: Drop> Seq<T> for GapSeq<T> {
         ensures list { self.new.list ≡ splice self.old.list at (at + remove) new.items }
         ensures seat { self.new.seat ≡ at + length new.items }
         ensures moved { result ≡ distance self.old.seat at (at + remove) }
+        ensures counted { self.new.moved ≡ self.old.moved + result }
         ensures room { self.old.spare + remove ≤ self.new.spare + length new.items }
     {
         let seat = self.front.len();
         let end = at + remove;
         let middle = seat.clamp(at, end);
-        let moved = seek(&mut self.front, &mut self.rear, middle);
+        let moved = seek(&mut self.front, &mut self.rear, &mut self.moves, middle);
         self.front.truncate(at);
         let kept = self.rear.len() - (end - middle);
         self.rear.truncate(kept);

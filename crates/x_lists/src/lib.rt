@@ -5,6 +5,7 @@ mod gap_iter;
 mod gap_seq;
 mod measured;
 mod measured_seq;
+mod moves;
 mod no_memory;
 mod patched_iter;
 mod plain_seq;

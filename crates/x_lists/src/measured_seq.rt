@@ -39,6 +39,7 @@ impl<T: Measured + Drop> MeasuredSeq<T> {
         requires short { total_length T.length entries.items < 2 ^ 64 }
         ensures list { IfOk result (λ s. s.list ≡ entries.items) }
         ensures seat { IfOk result (λ s. s.seat ≡ length entries.items) }
+        ensures moved { IfOk result (λ s. s.moved ≡ 0) }
         ensures no_memory { entries.items ≡ [] → IsOk result }
     {
         let total = total_length(&entries);
@@ -54,6 +55,7 @@ impl<T: Measured + Drop> MeasuredSeq<T> {
         requires total { total ≡ total_length T.length entries.items }
         ensures list { IfOk result (λ s. s.list ≡ entries.items) }
         ensures seat { IfOk result (λ s. s.seat ≡ length entries.items) }
+        ensures moved { IfOk result (λ s. s.moved ≡ 0) }
         ensures no_memory { entries.items ≡ [] → IsOk result }
     {
         let entries = GapSeq::from_entries(alloc, entries)?;
@@ -157,6 +159,7 @@ impl<T: Measured + Drop> MeasuredSeq<T> {
     pub fn reserve(&mut self, extra: usize) -> Result<(), NoMemory>
         ensures list { self.new.list ≡ self.old.list }
         ensures seat { self.new.seat ≡ self.old.seat }
+        ensures still { self.new.moved ≡ self.old.moved }
         ensures ok { OnOk result (extra ≤ self.new.spare) }
         ensures full { OnErr result (self.old.spare < extra) }
         ensures room { self.old.spare ≤ self.new.spare }
@@ -176,6 +179,7 @@ impl<T: Measured + Drop> MeasuredSeq<T> {
         ensures list { self.new.list ≡ patched self.old.list patch }
         ensures seat { self.new.seat ≡ patch.at + length patch.fresh }
         ensures moved { result ≡ distance self.old.seat patch.at (patch.at + patch.removed) }
+        ensures counted { self.new.moved ≡ self.old.moved + result }
         ensures room { self.old.spare + patch.removed ≤ self.new.spare + length patch.fresh }
     {
         let at = patch.at();
@@ -196,6 +200,7 @@ impl<T: Measured + Drop> MeasuredSeq<T> {
         ensures list { self.new.list ≡ slice_set self.old.list index new }
         ensures seat { self.new.seat ≡ index + 1 }
         ensures moved { result.1 ≡ distance self.old.seat index (index + 1) }
+        ensures counted { self.new.moved ≡ self.old.moved + result.1 }
         ensures room { self.old.spare ≤ self.new.spare }
     {
         let place = self.start_of(index) + new.length();

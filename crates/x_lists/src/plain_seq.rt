@@ -2,6 +2,7 @@
 ghost use Rattle.std.specs.Prelude.{◌≡◌, ◌+◌, ◌-◌, ◌≤◌, ◌++◌, [], length, take, drop, vec_len, vec_capacity};
 ghost use Rattle.std.specs.List.{splice};
 
+use super::moves::Moves;
 use super::shift::append_in_room;
 use crate::{NoMemory, Seq};
 use std::alloc::Global;
@@ -11,6 +12,7 @@ use std::marker::Model;
 #[derive(Debug, Drop)]
 pub struct PlainSeq<T> {
     entries: Vec<T>,
+    moves: Moves,
 }
 
 impl<T> Model for PlainSeq<T> {
@@ -22,16 +24,18 @@ impl<T> Model for PlainSeq<T> {
     ghost view = { λ s. record {
       list = s.entries.items;
       spare = vec_capacity s.entries - vec_len s.entries;
+      moved = s.moves.total;
     } };
 }
 
 impl<T> PlainSeq<T> {
     /// The empty list, which has no room yet.
     pub fn new(alloc: Global) -> PlainSeq<T>
-        ensures { result ≡ record { list = []; spare = 0 } }
+        ensures { result ≡ record { list = []; spare = 0; moved = 0 } }
     {
         PlainSeq {
             entries: Vec::new(alloc),
+            moves: Moves::none(),
         }
     }
 }
@@ -42,6 +46,8 @@ impl<T: Drop> Seq<T> for PlainSeq<T> {
     ghost list = { λ s. s.list };
 
     ghost spare = { λ s. s.spare };
+
+    ghost moved = { λ s. s.moved };
 
     ghost moves = { λ s at remove. length s.list - (at + remove) };
 
@@ -68,6 +74,7 @@ impl<T: Drop> Seq<T> for PlainSeq<T> {
         requires room { length new.items ≤ self.old.spare }
         ensures list { self.new.list ≡ splice self.old.list at (at + remove) new.items }
         ensures moved { result ≡ length self.old.list - (at + remove) }
+        ensures counted { self.new.moved ≡ self.old.moved + result }
         ensures room { self.old.spare + remove ≤ self.new.spare + length new.items }
     {
         let moved = self.entries.len() - (at + remove);
@@ -76,6 +83,7 @@ impl<T: Drop> Seq<T> for PlainSeq<T> {
         self.entries.truncate(at + moved);
         append_in_room(&mut self.entries, new);
         rotate_behind(&mut self.entries, at, moved);
+        self.moves.count_all(moved);
         moved as u64
     }
 }

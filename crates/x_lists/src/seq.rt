@@ -15,6 +15,9 @@ pub trait Seq<T> {
     /// How many more entries there is room for.
     ghost spare: { Self → ℕ };
 
+    /// How many kept entries it has moved since it was made.
+    ghost moved: { Self → ℕ };
+
     /// How many kept entries move where those of a range are replaced, by the place of the range and its
     /// length.
     ghost moves: { Self → ℕ → ℕ → ℕ };
@@ -47,7 +50,8 @@ pub trait Seq<T> {
         ensures full { OnErr result (spare self.old < extra) }
         ensures room { spare self.old ≤ spare self.new }
 
-        // A later change moves as many entries as it would have before.
+        // No entry moves, and a later change moves as many as it would have before.
+        ensures still { moved self.new ≡ moved self.old }
         ensures moves { (at remove : ℕ) → moves self.new at remove ≡ moves self.old at remove };
 
     /// Puts entries in the place of `remove` others, from `at` on, in room that is there, and answers how
@@ -57,5 +61,6 @@ pub trait Seq<T> {
         requires room { length new.items ≤ spare self.old }
         ensures list { list self.new ≡ splice (list self.old) at (at + remove) new.items }
         ensures moved { result ≡ moves self.old at remove }
+        ensures counted { moved self.new ≡ moved self.old + result }
         ensures room { spare self.old + remove ≤ spare self.new + length new.items };
 }

@@ -12,8 +12,8 @@ use Rattle.x_schema.specs.declared.form.Form.{Form}
 use Rattle.x_schema.specs.declared.form.Form.TheVariants as forms
 use Rattle.x_lookups.specs.declared.sizes.Size.{Size}
 
-abbrev pub kept : ℕ → ℕ
-kept bytes = min bytes (2 ^ 64 - 1)
+abbrev pub in_64_bits : ℕ → ℕ
+in_64_bits bytes = min bytes (2 ^ 64 - 1)
 
 abbrev pub always : ℕ → Size
 always bytes = record { least = bytes; fixed = true }
@@ -23,12 +23,12 @@ abbrev pub padded : ℕ → ℕ
 padded bytes = bytes + (4 - bytes % 4) % 4
 
 -- a count of at most so many values, and these
-abbrev pub counted : ℕ → Size
-counted most = record { least = 4; fixed = most == 0 }
+abbrev pub counted_size : ℕ → Size
+counted_size most = record { least = 4; fixed = most == 0 }
 
 -- both, one behind the other
 abbrev pub both : Size → Size → Size
-both a b = record { least = kept (a.least + b.least); fixed = a.fixed && b.fixed }
+both a b = record { least = in_64_bits (a.least + b.least); fixed = a.fixed && b.fixed }
 
 -- one of them
 abbrev pub either : Size → Size → Size
@@ -36,7 +36,7 @@ either a b = record { least = min a.least b.least; fixed = (a.fixed && b.fixed) 
 
 -- so many of it
 abbrev pub times : Size → ℕ → Size
-times a count = record { least = kept (a.least * count); fixed = a.fixed || count == 0 }
+times a count = record { least = in_64_bits (a.least * count); fixed = a.fixed || count == 0 }
 
 -- ---- of forms, by the sizes of those before them
 
@@ -87,10 +87,10 @@ form_size sizes forms.Quadruple = always 16
 form_size sizes forms.Bool = always 4
 form_size sizes (forms.Enum names) = always 4
 form_size sizes (forms.FixedOpaque n) = always (padded n)
-form_size sizes (forms.Opaque most) = counted most
-form_size sizes (forms.String most) = counted most
+form_size sizes (forms.Opaque most) = counted_size most
+form_size sizes (forms.String most) = counted_size most
 form_size sizes (forms.FixedArray of n) = times (size_at sizes of) n
-form_size sizes (forms.Array link most) = counted most
+form_size sizes (forms.Array link most) = counted_size most
 form_size sizes (forms.Optional link) = record { least = 4; fixed = false }
 form_size sizes (forms.Struct fields) = with_fields sizes (always 0) fields.items
 form_size sizes (forms.Union discriminant choice) =

@@ -2,7 +2,7 @@
 
 ghost use Rattle.std.specs.Prelude.{◌≡◌, IfOk, slice_get, string_bytes};
 ghost use Rattle.x_schema.specs.Schema.{IsTypeId};
-ghost use Rattle.x_lookups.specs.Sizes.{always, arm_size, both, choice_size, counted, either, form_size};
+ghost use Rattle.x_lookups.specs.Sizes.{always, arm_size, both, choice_size, counted_size, either, form_size};
 ghost use Rattle.x_lookups.specs.Sizes.{padded, size_at, size_of, size_text, times, with_arm, with_fields};
 ghost use Rattle.x_lookups.specs.Sizes.{or_nothing, with_case};
 
@@ -42,8 +42,8 @@ impl Size {
     }
 
     /// A count of at most so many values, and these.
-    fn counted(most: u32) -> Size
-        ensures { result ≡ counted most }
+    fn counted_size(most: u32) -> Size
+        ensures { result ≡ counted_size most }
     {
         Size {
             least: 4,
@@ -108,7 +108,9 @@ impl Size {
             Form::Hyper | Form::UnsignedHyper | Form::Double => Size::always(8),
             Form::Quadruple => Size::always(16),
             Form::FixedOpaque(count) => Size::always(padded(*count)),
-            Form::Opaque(most) | Form::String(most) | Form::Array(_, most) => Size::counted(*most),
+            Form::Opaque(most) | Form::String(most) | Form::Array(_, most) => Size::counted_size(
+                *most,
+            ),
             Form::FixedArray(element, count) => size_at(sizes, *element).times(*count),
             Form::Optional(_) => Size {
                 least: 4,

@@ -3,6 +3,7 @@
 #![tactic(auto)]
 
 mod answer;
+mod heap_floor;
 mod running;
 mod said;
 mod server;

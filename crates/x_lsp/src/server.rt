@@ -92,6 +92,11 @@ impl<'k> Server<'k> {
         self.life.end()
     }
 
+    /// How many documents are open.
+    pub(crate) fn open_count(&self) -> usize {
+        self.documents.count()
+    }
+
     /// Adds what is said to a message, with its header.
     pub fn add_said<S: Sink>(&self, said: &Said, pen: &mut Pen, sink: &mut S)
         ensures { Adds pen.old (S.state sink.old) pen.new (S.state sink.new)

@@ -7,6 +7,7 @@ ghost use Rattle.x_lsp.specs.Saying.{said_by};
 ghost use Rattle.x_lsp.specs.Serving.{AnswersNext, NamesFault, Serves, stop_by};
 ghost use Rattle.x_lsp.specs.States.{IsTakenBefore, fresh, state_of};
 
+use crate::heap_floor::HeapFloor;
 use crate::said::Said;
 use crate::server::Server;
 use std::alloc::Global;
@@ -79,7 +80,9 @@ fn converse<I: Tap, O: Sink>(
 {
     let mut reader = MessageReader::new(alloc);
     let mut pen = Pen::new();
+    let mut floor = HeapFloor::new(alloc);
     for _ in 0..u64::MAX {
+        floor.settle(server.open_count());
         match answer_next(server, &mut reader, input, &mut pen, out) {
             Ok(Next::Answered) => {}
             Ok(Next::NoMore) => return Ok(false),

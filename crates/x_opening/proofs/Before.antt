@@ -1,5 +1,7 @@
 -- What stands before a text.
-use Rattle.std.proofs.Common.{◌≡◌, ◌⊎◌, ◌<◌, ℕ, Bool, true, false, Bor, Result, Ok, Err, List, [], ◌∷◌, ◌++◌, append-nil, append_assoc, length, codes, true≢false, ◌+◌, ◌≤◌, get_or, drop, map, inl, inr, refl, sym, ap, subst, ◌∙◌}
+use Rattle.std.proofs.Common.{◌≡◌, ◌⊎◌, ◌<◌, ℕ, Bool, true, false, Bor, Result, Ok, Err, List, [], ◌∷◌, ◌++◌}
+use Rattle.std.proofs.Common.{append-nil, append_assoc, length, codes, true≢false, ◌+◌, ◌≤◌, get_or, drop}
+use Rattle.std.proofs.Common.{map, inl, inr, refl, sym, ap, subst, ◌∙◌}
 use Rattle.std.specs.Prelude.{◌&&◌, OnOk, is_err}
 use Rattle.std.specs.Str.{bytes_eq}
 use Rattle.std.proofs.lemmas.List.{at_drop_all, drop_more}
@@ -21,7 +23,8 @@ use Rattle.x_opening.specs.Opening.{AreRead, HavePlaces, types_only}
 
 -- the places of the files so far, and of one more
 pub places_more : (before new : KnownPlaces) (f : KnownSource) (fs : List KnownSource) (places : KnownPlaces)
-    → Compiles f.session.known f.session.text (λ items. new ≡ with_file before f.name.now f.session.text items)
+    → Compiles f.session.known f.session.text
+    (λ items. new ≡ with_file before f.name.now f.session.text items)
     → HavePlaces new fs places → HavePlaces before (f ∷ fs) places
 places_more before new f fs places added rest = (
   added.0,
@@ -31,14 +34,17 @@ places_more before new f fs places added rest = (
 )
 
 -- a file that was read, before others
-pub read_more : (from : FromC) (front : List ℕ) (plain : Bool) (n : List ℕ) (ns : List (List ℕ)) (f : KnownSource)
+pub read_more : (from : FromC) (front : List ℕ) (plain : Bool) (n : List ℕ) (ns : List (List ℕ))
+    (f : KnownSource)
     (fs : List KnownSource) (bytes text new lacking of_types : List ℕ) (stays all : Bool) → f.name.now ≡ n
     → IsBefore front from f.session.text f.session.known
     → Compiles f.session.known f.session.text (λ items. faults_of f.session.text items ≡ [])
-    → f.session.text ≡ bytes → IsPrelude front from bytes lacking → IsPrelude front (types_only from) bytes of_types
+    → f.session.text ≡ bytes → IsPrelude front from bytes lacking
+    → IsPrelude front (types_only from) bytes of_types
     → new ≡ front ++ lacking ++ bytes ++ codes "\n" → stays ≡ (plain && bytes_eq lacking of_types)
     → AreRead from new stays ns fs text all → AreRead from front plain (n ∷ ns) (f ∷ fs) text all
-read_more from front plain n ns f fs bytes text new lacking of_types stays all name known clean is lacks types made
+read_more from front plain n ns f fs bytes text new lacking of_types stays all name known clean is
+    lacks types made
     plain_is rest = (
       name,
       known,
@@ -73,7 +79,8 @@ pub not_read : {E : Type 0} (style : FaultStyle) (program file : List ℕ) (stat
     ⊎ IsTold (state new) after (program ++ codes ": " ++ file ++ codes ": cannot be read\n")
     → NotKnown style program (state old) after status
 not_read {E} style program file state old new after status quiet failed told =
-    let at_new : NotKnown style program (state new) after Failed = elim told [ inl e ↦ no_room e | inr e ↦ unread file e ] in
+    let at_new : NotKnown style program (state new) after Failed =
+    elim told [ inl e ↦ no_room e | inr e ↦ unread file e ] in
     subst (λ e. NotKnown style program (state e) after status) quiet
     (subst (NotKnown style program (state new) after) (sym failed) at_new)
 
@@ -95,7 +102,8 @@ opened_parts style known from program file text before after session h =
 -- the places of all files
 pub places_all : (places : KnownPlaces) (fs : List KnownSource) (i : ℕ) → length fs ≤ i
     → HavePlaces places (drop i fs) places
-places_all places fs i past = subst (λ rest. HavePlaces places rest places) (sym (at_drop_all (λ rest. rest) fs i past)) refl
+places_all places fs i past =
+    subst (λ rest. HavePlaces places rest places) (sym (at_drop_all (λ rest. rest) fs i past)) refl
 
 -- what holds where there is no error
 pub on_ok : {T E : Type 0} {P : Type 0} (r : Result T E) → is_err r ≡ false → OnOk r P → P
@@ -116,17 +124,20 @@ ReadsWith from names left known = (files : List KnownSource) (text : List ℕ) (
     → AreRead from [] true names (known.files.items ++ files) text all
 
 -- a file more was read
-pub reads_more : (from : FromC) (names : List (Bor (List ℕ))) (i : ℕ) (d : Bor (List ℕ)) (old new : KnownSources)
+pub reads_more : (from : FromC) (names : List (Bor (List ℕ))) (i : ℕ) (d : Bor (List ℕ))
+    (old new : KnownSources)
     (f : KnownSource) (bytes : List ℕ) → i < length names
     → ReadsWith from (map (λ n. n.now) names) (map (λ n. n.now) (drop i names)) old
     → f.name ≡ get_or names i d → IsBefore old.text.items from f.session.text f.session.known
     → Compiles f.session.known f.session.text (λ items. faults_of f.session.text items ≡ [])
     → f.session.text ≡ bytes → new.files.items ≡ old.files.items ++ f ∷ [] → Added from bytes old new
     → ReadsWith from (map (λ n. n.now) names) (map (λ n. n.now) (drop (i + 1) names)) new
-reads_more from names i d old new f bytes there so named known clean text_is files_are made files text is_plain h =
+reads_more from names i d old new f bytes there so named known clean text_is files_are made files text
+    is_plain h =
     let name = get_or names i d in
     let rest = map (λ n. n.now) (drop (i + 1) names) in
-    let one = read_more from old.text.items old.is_plain name.now rest f files bytes text new.text.items made.0 made.1
+    let one = read_more from old.text.items old.is_plain name.now rest f files bytes text new.text.items
+    made.0 made.1
     new.is_plain is_plain (ap (λ n. n.now) named) known clean text_is made.2 made.3 made.4 made.5 h in
     let left = drop_more names i d there in
     let all = so (f ∷ files) text is_plain (subst (λ ns. AreRead from old.text.items old.is_plain

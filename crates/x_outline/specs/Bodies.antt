@@ -228,13 +228,13 @@ versions_from at (v ∷ vs) =
     (versions_from (behind_version at v) vs)
 
 -- the procedures of each version
-abbrev pub procedures_of : ℕ → List tree.Version → List Members
-procedures_of at [] = []
-procedures_of at (v ∷ vs) = procedures_from (at + 3) v.procedures ∷ procedures_of (behind_version at v) vs
+abbrev pub procedure_lists : ℕ → List tree.Version → List Members
+procedure_lists at [] = []
+procedure_lists at (v ∷ vs) = procedures_from (at + 3) v.procedures ∷ procedure_lists (behind_version at v) vs
 
 -- the procedures of each version of a program, and the versions
 abbrev pub members : tree.Definition → List Members
-members (tree.Program name versions number) = procedures_of 3 versions ++ versions_from 3 versions ∷ []
+members (tree.Program name versions number) = procedure_lists 3 versions ++ versions_from 3 versions ∷ []
 members d = []
 
 -- ---- what may not be named twice

@@ -69,7 +69,7 @@ AddsProcedures a b ps = Adds a b (length (spell_procedures ps)) (λ k. []) (λ k
 
 abbrev pub AddsVersions : WalkState → WalkState → List tree.Version → Type 0
 AddsVersions a b vs =
-    Adds a b (length (spell_versions vs)) (λ k. bodies.procedures_of k vs) (λ k. bodies.versions_from k vs)
+    Adds a b (length (spell_versions vs)) (λ k. bodies.procedure_lists k vs) (λ k. bodies.versions_from k vs)
 
 -- a version, whatever is found of those behind it
 abbrev pub AddsVersion : WalkState → WalkState → tree.Version → Type 0

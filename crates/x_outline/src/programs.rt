@@ -4,7 +4,7 @@ ghost use Rattle.std.specs.Prelude.{◌≡◌, ◌<◌, ◌+◌, ◌^◌, [], �
 ghost use Rattle.x_trees.specs.Spell.{spell_type, spell_argument, spell_passed, spell_others, spell_versions};
 ghost use Rattle.x_trees.specs.View.{view_type, view_argument, view_passed, view_procedure, view_version};
 ghost use Rattle.x_trees.specs.View.{view_definition};
-ghost use Rattle.x_outline.specs.Bodies.{members, procedures_of, versions_from};
+ghost use Rattle.x_outline.specs.Bodies.{members, procedure_lists, versions_from};
 ghost use Rattle.x_trees.specs.Spell.{IsShort};
 ghost use Rattle.x_outline.specs.MemberWalks.{Skips, AddsName, AddsNumber, AddsProcedure, AddsProcedures};
 ghost use Rattle.x_outline.specs.MemberWalks.{AddsVersion};
@@ -176,7 +176,7 @@ fn add_version<'d>(
 /// The procedures of each version, and then the versions.
 fn versions(alloc: Global, list: &[Version]) -> Result<Vec<Members<'_>>, NoMemory>
     ensures { IfOk result (λ found. 3 + length (spell_versions (map view_version list.now)) < 2 ^ 64
-        → map view_members found.items ≡ procedures_of 3 (map view_version list.now)
+        → map view_members found.items ≡ procedure_lists 3 (map view_version list.now)
         ++ versions_from 3 (map view_version list.now) ∷ []) }
 {
     let mut walk = BodyWalk {

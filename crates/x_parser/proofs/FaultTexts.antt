@@ -18,7 +18,8 @@ within codes.Directive = lit< tt
 within codes.Unfinished = lit< tt
 
 -- which is the one at its place in the table
-pub text_is : (code : FaultCode) → slice_index_or (map (λ text. text.now) FAULT_TEXTS) (tag_of the_type code) [] ≡ fault_text code
+pub text_is : (code : FaultCode)
+    → slice_index_or (map (λ text. text.now) FAULT_TEXTS) (tag_of the_type code) [] ≡ fault_text code
 text_is codes.Syntax = refl
 text_is codes.BadByte = refl
 text_is codes.BadNumber = refl

@@ -32,13 +32,13 @@ pub record WordAhead : Type 0 where
   pub code : FaultCode
 
 -- the place of a token before others
-abbrev pub place_of : Lexeme → List Lexeme → WordAhead
-place_of t ts = record { word = word_of t; left = suc (length ts); code = code_of t.kind }
+abbrev pub word_ahead : Lexeme → List Lexeme → WordAhead
+word_ahead t ts = record { word = word_of t; left = suc (length ts); code = code_of t.kind }
 
 -- the places of the words among the tokens
 abbrev pub places_of : List Lexeme → List WordAhead
 places_of [] = []
-places_of (t ∷ ts) = if is_significant t.kind then place_of t ts ∷ places_of ts else places_of ts
+places_of (t ∷ ts) = if is_significant t.kind then word_ahead t ts ∷ places_of ts else places_of ts
 
 -- the places of the words that are ahead
 unfoldable pub ahead : List Token → List WordAhead

@@ -1,5 +1,6 @@
 -- How far a walk has come in a line.
-use Rattle.std.proofs.Common.{◌≡◌, ℕ, ◌+◌, ◌-◌, ◌≤◌, Bool, true, false, List, [], ◌∷◌, length, take, drop, arith, refl, sym, ap, subst, ◌∙◌, slice_range, min}
+use Rattle.std.proofs.Common.{◌≡◌, ℕ, ◌+◌, ◌-◌, ◌≤◌, Bool, true, false, List, [], ◌∷◌, length, take, drop}
+use Rattle.std.proofs.Common.{arith, refl, sym, ap, subst, ◌∙◌, slice_range, min}
 use Rattle.std.specs.Prelude.{sum_by}
 use Rattle.std.proofs.lemmas.List.{take_min, take-take, drop-take}
 use Rattle.std.proofs.lemmas.List.Sums.{sum_by-take-drop}
@@ -13,9 +14,12 @@ pub content_is : (text : List ℕ) → take (length (first_line text)) text ≡ 
 content_is [] = refl
 content_is (b ∷ rest) = go (content_is rest) (is_break b) refl
   where
-    go : take (length (first_line rest)) rest ≡ first_line rest → (t : Bool) → is_break b ≡ t → take (length (first_line (b ∷ rest))) (b ∷ rest) ≡ first_line (b ∷ rest)
-    go more true is = subst (λ l. take (length l) (b ∷ rest) ≡ l) (sym (on_true (is_break b) [] (b ∷ first_line rest) is)) refl
-    go more false is = subst (λ l. take (length l) (b ∷ rest) ≡ l) (sym (on_false (is_break b) [] (b ∷ first_line rest) is)) (ap (λ l. b ∷ l) more)
+    go : take (length (first_line rest)) rest ≡ first_line rest → (t : Bool) → is_break b ≡ t
+        → take (length (first_line (b ∷ rest))) (b ∷ rest) ≡ first_line (b ∷ rest)
+    go more true is = subst (λ l. take (length l) (b ∷ rest) ≡ l)
+        (sym (on_true (is_break b) [] (b ∷ first_line rest) is)) refl
+    go more false is = subst (λ l. take (length l) (b ∷ rest) ≡ l)
+        (sym (on_false (is_break b) [] (b ∷ first_line rest) is)) (ap (λ l. b ∷ l) more)
 
 -- the bytes of a line of a text
 pub content_of : (text : List ℕ) (start n : ℕ) → n ≡ length (first_line (drop start text))
@@ -25,7 +29,8 @@ content_of text start n is =
     ap (λ k. take k (drop start text)) e ∙ content_is (drop start text)
 
 -- behind a line's end stand no more units of it
-pub units_within : (e : Encoding) (line : List ℕ) (n : ℕ) → units_before e line (min n (length line)) ≡ units_before e line n
+pub units_within : (e : Encoding) (line : List ℕ) (n : ℕ)
+    → units_before e line (min n (length line)) ≡ units_before e line n
 units_within e line n = ap (sum_by (unit e)) (take_min n line)
 
 dropped : (line : List ℕ) (from to : ℕ) → from ≤ to → drop from (take to line) ≡ slice_range line from to

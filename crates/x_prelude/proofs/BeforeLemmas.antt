@@ -1,5 +1,6 @@
 -- What stands before a text.
-use Rattle.std.proofs.Common.{◌≡◌, ◌⊎◌, ◌<◌, ℕ, Bool, true, false, List, [], ◌++◌, append-nil, length, inl, inr}
+use Rattle.std.proofs.Common.{◌≡◌, ◌⊎◌, ◌<◌, ℕ, Bool, true, false, List, [], ◌++◌, append-nil, length, inl}
+use Rattle.std.proofs.Common.{inr}
 use Rattle.std.proofs.Common.{Vec, vec_len, arith, refl, sym, ap, subst, ◌∙◌}
 use Rattle.std.specs.Global.{Global}
 use Rattle.std.proofs.lemmas.Grind.{common_steps}
@@ -11,7 +12,8 @@ use Rattle.x_compile.specs.Known.{KnownText, known_names}
 use Rattle.x_rules.specs.Results.{KnownNames}
 use Rattle.x_session.specs.Session.{Compiles, Document}
 use Rattle.x_session.proofs.DeclaredLemmas.{of_each}
-use Rattle.x_prelude.specs.Before.{IsBefore, IsCrowded, IsKnownOf, IsOpenBy, IsOpenOver, IsPrelude, StandsBefore}
+use Rattle.x_prelude.specs.Before.{IsBefore, IsCrowded, IsKnownOf, IsOpenBy, IsOpenOver, IsPrelude}
+use Rattle.x_prelude.specs.Before.{StandsBefore}
 use Rattle.x_prelude.specs.Before.{by_files, by_names}
 use Rattle.x_prelude.specs.CTypes.{c_types}
 use Rattle.x_prelude.specs.Lacking.{lacking}
@@ -111,5 +113,6 @@ opened_alone files from base text r none few over = record {
           known,
           (s.known, (here.0, here.1, here.2, takes_nothing from none (known_names s.known) here.1)),
         ) in
-        is_before files from text [] s.known lacks (subst (λ t. IsKnownOf t s.known) (sym (append-nil files)) known)
+        is_before files from text [] s.known lacks
+        (subst (λ t. IsKnownOf t s.known) (sym (append-nil files)) known)
     by (Err e) is known items = tt

@@ -27,7 +27,8 @@ abbrev pub others : List ℕ → List Occurrence → List Occurrence
 others name ms = filter (λ (m : Occurrence). not (bytes_eq (name_of m) name)) ms
 
 -- a mention of another name, kept or not
-other_kept : (name : List ℕ) (m : Occurrence) (b : Bool) (ms : List Occurrence) → bytes_eq name (name_of m) ≡ false
+other_kept : (name : List ℕ) (m : Occurrence) (b : Bool) (ms : List Occurrence)
+    → bytes_eq name (name_of m) ≡ false
     → is_among name (cond b (m ∷ ms) ms) ≡ is_among name ms
 other_kept name m true ms e = ap (λ q. q || is_among name ms) e
 other_kept name m false ms e = refl
@@ -56,12 +57,14 @@ kept_behind own ms m b e =
     filter-append (λ (o : Occurrence). not (bytes_eq (name_of o) own)) ms (m ∷ [])
     ∙ ap (λ q. others own ms ++ cond (not q) (m ∷ []) []) e
 
-not_again : (own : List ℕ) (ms : List Occurrence) (m : Occurrence) (b : Bool) → bytes_eq (name_of m) own ≡ true
+not_again : (own : List ℕ) (ms : List Occurrence) (m : Occurrence) (b : Bool)
+    → bytes_eq (name_of m) own ≡ true
     → others own (cond b ms (ms ++ m ∷ [])) ≡ others own ms
 not_again own ms m true e = refl
 not_again own ms m false e = kept_behind own ms m true e ∙ append-nil (others own ms)
 
-once_more : (x : Occurrence) (own : List ℕ) (ms : List Occurrence) (m : Occurrence) (b : Bool) → bytes_eq (name_of m) own
+once_more : (x : Occurrence) (own : List ℕ) (ms : List Occurrence) (m : Occurrence) (b : Bool)
+    → bytes_eq (name_of m) own
     ≡ false
     → x ∷ others own (cond b ms (ms ++ m ∷ [])) ≡ cond b (x ∷ others own ms) (x ∷ (others own ms ++ m ∷ []))
 once_more x own ms m true e = refl
@@ -76,7 +79,8 @@ first_more (x ∷ ms) m = ap (λ l. x ∷ others (name_of x) l) (first_more ms m
   where
     by : (fs : List Occurrence) (b : Bool) → bytes_eq (name_of m) (name_of x) ≡ b
         → x ∷ others (name_of x) (cond (is_among (name_of m) fs) fs (fs ++ m ∷ []))
-        ≡ cond (bytes_eq (name_of m) (name_of x) || is_among (name_of m) (others (name_of x) fs)) (x ∷ others (name_of x) fs)
+        ≡ cond (bytes_eq (name_of m) (name_of x) || is_among (name_of m) (others (name_of x) fs))
+        (x ∷ others (name_of x) fs)
         (x ∷ (others (name_of x) fs ++ m ∷ []))
     by fs true e =
         ap (λ l. x ∷ l) (not_again (name_of x) fs m (is_among (name_of m) fs) e)
@@ -224,7 +228,8 @@ new_tag tags item m tag before is h name =
 
 -- ---- one mention more of which it is asked whether it is kept
 
-passed_more : (p : Occurrence → Bool) (before : List Occurrence) (item : ℕ) (ms : List mention.Mention) (i : ℕ)
+passed_more : (p : Occurrence → Bool) (before : List Occurrence) (item : ℕ)
+    (ms : List mention.Mention) (i : ℕ)
     (d : mention.Mention) (b : Bool) → i < length ms → p (occurrence item (get_or ms i d)) ≡ b
     → filter p (before ++ map (occurrence item) (take i ms))
     ++ cond b (occurrence item (get_or ms i d) ∷ []) []

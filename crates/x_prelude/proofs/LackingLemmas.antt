@@ -1,5 +1,6 @@
 -- The names that a text lacks, one mention after another.
-use Rattle.std.proofs.Common.{◌≡◌, ℕ, suc, ◌+◌, ◌<◌, ◌≤◌, Bool, true, false, cond, Option, None, Some, List, []}
+use Rattle.std.proofs.Common.{◌≡◌, ℕ, suc, ◌+◌, ◌<◌, ◌≤◌, Bool, true, false, cond, Option, None, Some, List}
+use Rattle.std.proofs.Common.{[]}
 use Rattle.std.proofs.Common.{◌∷◌, ◌++◌, map, take, drop, append-nil, append_assoc, refl, sym, ap, subst, ◌∙◌}
 use Rattle.std.proofs.Common.{arith, length, length-take-le}
 use Rattle.std.specs.Prelude.{not, ◌||◌, is_some, nat_lt, option_map}
@@ -52,7 +53,8 @@ uses_more items n i rest here le =
     ap (λ is. occurrences_from 0 (definitions_of is)) (take_next items n i rest here)
     ∙ ap (occurrences_from 0) (map_append (λ (x : Item). parsed_definition x.parse) front (i ∷ []))
     ∙ occurrences_more 0 (definitions_of front) (parsed_definition i.parse)
-    ∙ ap (λ k. occurrences_from 0 (definitions_of front) ++ occurrences_in k (parsed_definition i.parse)) place
+    ∙ ap (λ k. occurrences_from 0 (definitions_of front) ++ occurrences_in k (parsed_definition i.parse))
+    place
 
 -- the tables of one item more, which are those before with what is added for its mentions
 pub item_more : {known : KnownText} (own : KnownNames) (text : List ℕ) (tokens : List (Kind × ℕ))

@@ -1,5 +1,6 @@
 -- What items lead to, over the list of the definitions of a text.
-use Rattle.std.proofs.Common.{Bor, ◌≡◌, ℕ, suc, ◌+◌, ◌^◌, ◌<◌, ◌≤◌, Bool, true, false, cond, Option, None, Some, List}
+use Rattle.std.proofs.Common.{Bor, ◌≡◌, ℕ, suc, ◌+◌, ◌^◌, ◌<◌, ◌≤◌, Bool, true, false, cond, Option, None}
+use Rattle.std.proofs.Common.{Some, List}
 use Rattle.std.proofs.Common.{[], ◌∷◌, ◌++◌, length, get_or, map, take, drop, append-nil, append_assoc}
 use Rattle.std.proofs.Common.{arith, length-take-le, refl, sym, ap, subst, ◌∙◌}
 use Rattle.std.specs.Prelude.{not, ◌&&◌, option_and_then, option_map, slice_get}
@@ -27,11 +28,13 @@ use Rattle.x_session.specs.declared.declared.Spot.{Spot}
 use Rattle.x_session.proofs.DeclaredLemmas.{of_each, short_each}
 use Rattle.x_prelude.specs.Lacking.{Occurrence, are_lacking, is_lacking, name_of, occurrences_from}
 use Rattle.x_prelude.specs.Lacking.{occurrences_in}
-use Rattle.x_prelude.specs.Leading.{AreLed, IsForeignUseBy, declared, declaring, declaring_all, declaring_used}
+use Rattle.x_prelude.specs.Leading.{AreLed, IsForeignUseBy, declared, declaring, declaring_all}
+use Rattle.x_prelude.specs.Leading.{declaring_used}
 use Rattle.x_prelude.specs.Leading.{first_led, foreign_uses, used_by}
 use Rattle.x_prelude.specs.Foreign.{spot_of}
 use Rattle.x_prelude.specs.Prelude.{is_type}
-use Rattle.x_prelude.specs.Reaching.{AreNamesOf, GoesOnTo, LeadsWithin, foreign_word, is_marked, place_of}
+use Rattle.x_prelude.specs.Reaching.{AreNamesOf, GoesOnTo, LeadsWithin, foreign_word, is_marked}
+use Rattle.x_prelude.specs.Reaching.{occurrence_place}
 use Rattle.x_prelude.specs.declared.definition.FromC.{FromC}
 use Rattle.x_prelude.specs.declared.leading.Reached.{Reached}
 use Rattle.x_prelude.proofs.LackingLemmas.{occurrences_more}
@@ -207,7 +210,8 @@ module _ (from : FromC) (known : KnownNames) (first : List ℕ → Option Declar
       ∙ among_item n led (mentioned d) ∙ ap (map (occur n)) without
 
   all_mentions : (definitions : List (Option Definition)) (n : ℕ) → led_among (occurrences_from 0 definitions)
-      ≡ led_in_front n definitions ++ led_among (occurrences_from (0 + length (take n definitions)) (drop n definitions))
+      ≡ led_in_front n definitions
+      ++ led_among (occurrences_from (0 + length (take n definitions)) (drop n definitions))
   all_mentions definitions n =
       ap (λ ds. led_among (occurrences_from 0 ds)) (sym (take-append-drop n definitions))
       ∙ ap led_among (occurrences_both 0 (take n definitions) (drop n definitions))
@@ -218,7 +222,7 @@ module _ (from : FromC) (known : KnownNames) (first : List ℕ → Option Declar
   pub front_found : (definitions : List (Option Definition)) (n : ℕ) (d : Definition) (ms : List Mention)
       (word : ℕ) → slice_get definitions n ≡ Some (Some d) → is_led n ≡ true → ms ≡ mentioned d
       → foreign_word from known first ms ≡ Some word → led_in_front n definitions ≡ []
-      → ◌≡◌ {A = Option (ℕ × ℕ)} (Some (n, word)) (option_map place_of
+      → ◌≡◌ {A = Option (ℕ × ℕ)} (Some (n, word)) (option_map occurrence_place
       (slice_get (led_among (occurrences_from 0 definitions)) 0))
   front_found definitions n d ms word is led are found before =
       let here : led_in_front (n + 1) definitions ≡ map (occur n) (filter foreign ms) =
@@ -229,16 +233,17 @@ module _ (from : FromC) (known : KnownNames) (first : List ℕ → Option Declar
       ≡ map (occur n) (filter foreign ms)
       ++ led_among (occurrences_from (0 + length (take (n + 1) definitions)) (drop (n + 1) definitions)) =
       all_mentions definitions (n + 1)
-      ∙ ap (λ l. l ++ led_among (occurrences_from (0 + length (take (n + 1) definitions)) (drop (n + 1) definitions)))
+      ∙ ap (λ l. l ++ led_among (occurrences_from (0 + length (take (n + 1) definitions))
+      (drop (n + 1) definitions)))
       here in
-      sym (ap (λ l. option_map place_of (slice_get l 0)) all
+      sym (ap (λ l. option_map occurrence_place (slice_get l 0)) all
       ∙ by (filter foreign ms) found)
     where
       rest : List Occurrence
       rest = led_among (occurrences_from (0 + length (take (n + 1) definitions)) (drop (n + 1) definitions))
 
       by : (fs : List Mention) → option_map (λ (m : Mention). m.word) (slice_get fs 0) ≡ Some word
-          → ◌≡◌ {A = Option (ℕ × ℕ)} (option_map place_of
+          → ◌≡◌ {A = Option (ℕ × ℕ)} (option_map occurrence_place
           (slice_get (map (occur n) fs ++ rest) 0)) (Some (n, word))
       by [] e = absurd cc
       by (m ∷ fs) e = let same : m.word ≡ word = cc in ap (λ w. Some (n, w)) same
@@ -246,10 +251,10 @@ module _ (from : FromC) (known : KnownNames) (first : List ℕ → Option Declar
   -- all items are passed
   pub front_all : (definitions : List (Option Definition)) (n : ℕ) → length definitions ≤ n
       → led_in_front n definitions ≡ []
-      → ◌≡◌ {A = Option (ℕ × ℕ)} None (option_map place_of
+      → ◌≡◌ {A = Option (ℕ × ℕ)} None (option_map occurrence_place
       (slice_get (led_among (occurrences_from 0 definitions)) 0))
   front_all definitions n le none =
-      sym (ap (λ l. option_map place_of (slice_get l 0))
+      sym (ap (λ l. option_map occurrence_place (slice_get l 0))
       (ap (λ ds. led_among (occurrences_from 0 ds)) (sym (take_all n definitions le)) ∙ none))
 
 -- ---- what one mention more uses
@@ -340,7 +345,7 @@ pub use_found : (own : KnownNames) (from : FromC) (text : List ℕ) (items : Lis
     → map tree_at definitions ≡ definitions_of items
     → ((name : List ℕ) → first name ≡ first_declarer (definitions_of items) name)
     → AreLed (map tree_at definitions) at.item is_led
-    → ◌≡◌ {A = Option (ℕ × ℕ)} (Some (item, word)) (option_map place_of
+    → ◌≡◌ {A = Option (ℕ × ℕ)} (Some (item, word)) (option_map occurrence_place
     (first_led is_led (foreign_uses from own (map tree_at definitions))))
     → spot ≡ option_map (λ t. spot_at text t.start) (word_of_item items item word)
     → IsForeignUseBy own from text items name spot
@@ -349,11 +354,11 @@ use_found own from text items name definitions first is_led at item word spot fo
     declared foreign at (sym (names name) ∙ is) is_led
     (subst (λ ds. AreLed ds at.item is_led) are led)
     (by (first_led is_led (foreign_uses from own (definitions_of items)))
-    (found ∙ ap (λ ds. option_map place_of
+    (found ∙ ap (λ ds. option_map occurrence_place
     (first_led is_led (foreign_uses from own ds))) are))
   where
     by : (o : Option Occurrence) → ◌≡◌ {A = Option (ℕ × ℕ)} (Some (item, word))
-        (option_map place_of o)
+        (option_map occurrence_place o)
         → spot ≡ option_and_then (spot_of text items) o
     by None e = absurd cc
     by (Some o) e =
@@ -366,18 +371,18 @@ pub none_found : (own : KnownNames) (from : FromC) (text : List ℕ) (items : Li
     → map tree_at definitions ≡ definitions_of items
     → ((name : List ℕ) → first name ≡ first_declarer (definitions_of items) name)
     → AreLed (map tree_at definitions) at.item is_led
-    → ◌≡◌ {A = Option (ℕ × ℕ)} None (option_map place_of
+    → ◌≡◌ {A = Option (ℕ × ℕ)} None (option_map occurrence_place
     (first_led is_led (foreign_uses from own (map tree_at definitions))))
     → IsForeignUseBy own from text items name None
 none_found own from text items name definitions first is_led at foreign is are names led found =
     declared foreign at (sym (names name) ∙ is) is_led
     (subst (λ ds. AreLed ds at.item is_led) are led)
     (by (first_led is_led (foreign_uses from own (definitions_of items)))
-    (found ∙ ap (λ ds. option_map place_of
+    (found ∙ ap (λ ds. option_map occurrence_place
     (first_led is_led (foreign_uses from own ds))) are))
   where
     by : (o : Option Occurrence) → ◌≡◌ {A = Option (ℕ × ℕ)} None
-        (option_map place_of o)
+        (option_map occurrence_place o)
         → None ≡ option_and_then (spot_of text items) o
     by None e = refl
     by (Some o) e = absurd cc
@@ -386,5 +391,5 @@ none_found own from text items name definitions first is_led at foreign is are n
 abbrev pub Finds : Option (ℕ × ℕ) → KnownNames → FromC → (List ℕ → Option Declarer)
     → List (Option (Bor rust_tree.Definition)) → List Bool → Type 0
 Finds found own from first definitions marks = AreNamesOf (map tree_at definitions) first
-    → ◌≡◌ {A = Option (ℕ × ℕ)} found (option_map place_of
+    → ◌≡◌ {A = Option (ℕ × ℕ)} found (option_map occurrence_place
     (first_led (is_marked marks) (foreign_uses from own (map tree_at definitions))))

@@ -6,8 +6,10 @@ use Rattle.std.specs.Prelude.{All, Contains, not}
 use Rattle.std.specs.List.{count_by}
 use Rattle.std.proofs.lemmas.Bool.Decides.{eqb_tells}
 use Rattle.std.proofs.Math.ListN.{get_or-append, get_or-eq_default}
-use Rattle.std.proofs.lemmas.List.{get_or-set_other, get_or-set_same, get_or_default, length-append, length-set}
-use Rattle.std.proofs.lemmas.List.Elements.{All-append, All-contains, All-contains_itself, All-get_or, All-head}
+use Rattle.std.proofs.lemmas.List.{get_or-set_other, get_or-set_same, get_or_default, length-append}
+use Rattle.std.proofs.lemmas.List.{length-set}
+use Rattle.std.proofs.lemmas.List.Elements.{All-append, All-contains, All-contains_itself, All-get_or}
+use Rattle.std.proofs.lemmas.List.Elements.{All-head}
 use Rattle.std.proofs.lemmas.List.Elements.{All-nil, All-push, All-weaker, Contains-append_left}
 use Rattle.std.proofs.lemmas.List.Elements.{Contains-append_right, Contains-get_or, Contains-push}
 use Rattle.std.proofs.lemmas.List.Elements.{Contains-push_cases}
@@ -176,12 +178,14 @@ pub walk_led : (definitions : List (Option Definition)) (from count at : ℕ) (r
     → length r.order.items ≤ at → IsWalk definitions from count at r
     → AreLed definitions from (is_marked r.marks.items)
 walk_led definitions from count at r all h = record {
-  leads = λ item is. All-contains (LeadsTo definitions from) r.order.items item h.led (h.reached.listed item is);
+  leads = λ item is. All-contains (LeadsTo definitions from) r.order.items item h.led
+      (h.reached.listed item is);
   all = λ item to. marks item (reaches item to);
 }
   where
     marks : (item : ℕ) → Contains r.order.items item → is_marked r.marks.items item ≡ true
-    marks item at' = All-contains (λ i. is_marked r.marks.items i ≡ true) r.order.items item h.reached.marked at'
+    marks item at' = All-contains (λ i. is_marked r.marks.items i ≡ true) r.order.items item
+        h.reached.marked at'
 
     closed : (via : ℕ) → Contains r.order.items via → All (Contains r.order.items) (used_by definitions via)
     closed via (k, within, is) =
@@ -192,7 +196,8 @@ walk_led definitions from count at r all h = record {
     reaches : (item : ℕ) → LeadsTo definitions from item → Contains r.order.items item
     reaches item itself = h.begins
     reaches item (goes_on {via} to used) =
-        All-contains (Contains r.order.items) (used_by definitions via) item (closed via (reaches via to)) used
+        All-contains (Contains r.order.items) (used_by definitions via) item
+        (closed via (reaches via to)) used
 
 -- ---- where a walk begins and ends
 

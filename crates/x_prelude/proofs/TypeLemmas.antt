@@ -37,6 +37,7 @@ types_more table i m d own ds name declaration old mid new next lt named declare
 -- all entries
 pub all_types : (table : List (Bor (List ℕ) × Bor (List ℕ))) (i : ℕ) (own : KnownNames)
     (ds : List (Option Definition)) (old new : List ℕ) → length table ≤ i
-    → new ≡ old ++ types_in (view_types (take i table)) own ds → new ≡ old ++ types_in (view_types table) own ds
+    → new ≡ old ++ types_in (view_types (take i table)) own ds
+    → new ≡ old ++ types_in (view_types table) own ds
 all_types table i own ds old new past is =
     is ∙ ap (λ t. old ++ types_in (view_types t) own ds) (take_all i table past)

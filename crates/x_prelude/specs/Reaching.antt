@@ -47,12 +47,12 @@ foreign_word from known first mentions = option_map (λ m. m.word)
     (slice_get (filter (λ m. is_lacking known first m.name && not (is_type from m.name)) mentions) 0)
 
 -- the item and the word of an occurrence
-abbrev pub place_of : Occurrence → ℕ × ℕ
-place_of o = (o.item, o.mention.word)
+abbrev pub occurrence_place : Occurrence → ℕ × ℕ
+occurrence_place o = (o.item, o.mention.word)
 
 -- the item and the word of the first name of C that an item leads to, if it leads to any
 pub record IsFirstLed (from_c : FromC) (known : KnownNames) (definitions : List (Option Definition))
     (from : ℕ) (found : Option (ℕ × ℕ)) : Type 0 where
   pub is_led : ℕ → Bool
   pub led : AreLed definitions from is_led
-  pub first : found ≡ option_map place_of (first_led is_led (foreign_uses from_c known definitions))
+  pub first : found ≡ option_map occurrence_place (first_led is_led (foreign_uses from_c known definitions))

@@ -9,7 +9,7 @@ ghost use Rattle.x_session.specs.Session.{Compiles};
 ghost use Rattle.x_session.specs.DeclaredNames.{spot_at, word_of_item};
 ghost use Rattle.x_prelude.specs.Leading.{AreLed, IsForeignUseBy, declaring_all, first_led, foreign_uses};
 ghost use Rattle.x_prelude.specs.Reaching.{AreNamesOf, AreReached, GoesOnTo, IsFirstLed, LeadsWithin};
-ghost use Rattle.x_prelude.specs.Reaching.{foreign_word, is_marked, place_of};
+ghost use Rattle.x_prelude.specs.Reaching.{foreign_word, is_marked, occurrence_place};
 
 use crate::definition::{FromC, is_type};
 use crate::lacking::is_lacking;
@@ -175,7 +175,7 @@ fn first_marked(
 ) -> Result<Option<(usize, usize)>, NoMemory>
     requires { length marks.now ≡ length definitions.now }
     ensures { IfOk result (λ found. AreNamesOf (map tree_at definitions.now) (first_in names.now)
-        → found ≡ option_map place_of (first_led (is_marked marks.now)
+        → found ≡ option_map occurrence_place (first_led (is_marked marks.now)
         (foreign_uses from_c (known_names known.now) (map tree_at definitions.now)))) }
 {
     let mut glossary = Glossary::new(alloc);

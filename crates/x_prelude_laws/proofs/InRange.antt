@@ -24,8 +24,8 @@ use Rattle.x_outline.specs.Bodies.{bodies_of_arms, bodies_of_declaration, bodies
 use Rattle.x_outline.specs.Bodies.{bodies_of_type, cases_from, cases_of, default_at, default_name}
 use Rattle.x_outline.specs.Bodies.{enumerators, enumerators_from, enumerators_in, enumerators_of, field_at}
 use Rattle.x_outline.specs.Bodies.{field_groups, fields_from, fields_of, member_names, members, name_groups}
-use Rattle.x_outline.specs.Bodies.{procedures_from, procedures_of, star, versions_from}
-use Rattle.x_rules.specs.Constants.{Known, known_with, knowns, number_of}
+use Rattle.x_outline.specs.Bodies.{procedures_from, procedure_lists, star, versions_from}
+use Rattle.x_rules.specs.Constants.{Known, known_with, knowns, enumerator_number}
 use Rattle.x_rules.specs.Rules.{HasMentionFault, HasRole, IsFault, IsOutOfRange}
 use Rattle.x_rules.specs.Views.{View}
 use Rattle.x_rules.specs.declared.fault.RuleCode.{RuleCode}
@@ -265,9 +265,10 @@ known_under : (see : List ℕ → View) (n : ℕ) (known : List Known) (before :
     → Under known_word n (known_with see known before es)
 known_under see n known before [] h k = h
 known_under see n known before (e ∷ es) h k =
-    known_under see n (known ++ record { enumerator = e; number = number_of see known before e } ∷ [])
-    (number_of see known before e) es
-    (under_both known_word n known (record { enumerator = e; number = number_of see known before e } ∷ [])
+    known_under see n (known ++ record { enumerator = e; number = enumerator_number see known before e } ∷ [])
+    (enumerator_number see known before e) es
+    (under_both known_word n known
+    (record { enumerator = e; number = enumerator_number see known before e } ∷ [])
     h (k.0, tt)) k.1
 
 -- ---- fields and cases
@@ -445,7 +446,7 @@ members_all n m [] le h = tt
 members_all n m (x ∷ ms) le h = (members_more n m x le h.0, members_all n m ms le h.1)
 
 all_procedures : (at : ℕ) (vs : List tree.Version)
-    → AllMembers (at + length (spell_versions vs)) (procedures_of at vs)
+    → AllMembers (at + length (spell_versions vs)) (procedure_lists at vs)
 all_procedures at [] = tt
 all_procedures at (v ∷ vs) =
     let all = length-append (spell_version v) (spell_versions vs) in
@@ -454,7 +455,7 @@ all_procedures at (v ∷ vs) =
       members_more (at + 3 + length (spell_procedures v.procedures)) n
           (procedures_from (at + 3) v.procedures) (omega (arith, all, long_version v))
           (procedures_under (at + 3) v.procedures),
-      members_all (next + length (spell_versions vs)) n (procedures_of next vs)
+      members_all (next + length (spell_versions vs)) n (procedure_lists next vs)
           (omega (arith, all, long_version v)) (all_procedures next vs),
     )
 
@@ -468,8 +469,8 @@ members_under (tree.Program name versions number) =
     let long = length-append (spell_versions versions) (Fixed marks.CloseBrace ∷ Fixed marks.Equals
     ∷ Number number ∷ Fixed marks.Semicolon ∷ []) in
     let n = length (spell (tree.Program name versions number)) in
-    members_push n (procedures_of 3 versions) (versions_from 3 versions)
-    (members_all (3 + length (spell_versions versions)) n (procedures_of 3 versions) (omega (arith, long))
+    members_push n (procedure_lists 3 versions) (versions_from 3 versions)
+    (members_all (3 + length (spell_versions versions)) n (procedure_lists 3 versions) (omega (arith, long))
     (all_procedures 3 versions))
     (members_more (3 + length (spell_versions versions)) n (versions_from 3 versions) (omega (arith, long))
     (versions_under 3 versions))

@@ -26,13 +26,13 @@ use Rattle.x_positions.specs.declared.encoding.Encoding.{Encoding}
 use Rattle.x_published.specs.declared.published.Severity.{Severity}
 use Rattle.x_published.specs.declared.published.Severity.TheVariants.{Error, Hint, Information, Warning}
 use Rattle.x_frames.specs.Answers.{note_data}
-use Rattle.x_frames.specs.Framing.{number_of}
+use Rattle.x_frames.specs.Framing.{short_number}
 use Rattle.x_positions.specs.Positions.{position_of}
 use Rattle.x_positions.specs.PositionData.{range_data}
 
 -- the number of a fault, which its text begins with
 abbrev pub fault_number : FaultCode → ℕ
-fault_number code = unwrap_or (number_of (before_first (λ b. b == 32) (fault_text code))) 0
+fault_number code = unwrap_or (short_number (before_first (λ b. b == 32) (fault_text code))) 0
 
 -- another place of a document that matters, and what is said of it
 abbrev pub related_data : (said uri : List ℕ) → Range → Data

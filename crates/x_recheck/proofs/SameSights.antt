@@ -70,7 +70,9 @@ same_view (seen.Earlier k l m) (seen.Earlier k' l' m') = (
       let kind : k ≡ k' = cc in
       let lifted : l ≡ l' = cc in
       let meaning : view_meaning m ≡ view_meaning m' = cc in
-      all_true (sameb the_type k k') _ (true_same the_type k k' kind) (all_true _ (meaning_eq.eq-value.it m m') ((booleans_Decides l l').1 lifted) ((same_meaning m m').1 meaning)),
+      all_true (sameb the_type k k') _ (true_same the_type k k' kind)
+      (all_true _ (meaning_eq.eq-value.it m m') ((booleans_Decides l l').1 lifted)
+      ((same_meaning m m').1 meaning)),
 )
 same_view (seen.Own k l) (seen.Own k' l') = (
   λ e.

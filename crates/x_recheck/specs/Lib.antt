@@ -1,3 +1,3 @@
 pub mod Editing
-pub mod Rechecking
 pub mod Staleness
+pub mod inside

@@ -1,5 +1,6 @@
 -- Lists of faults in their order.
-use Rattle.std.proofs.Common.{◌≡◌, ◌<◌, ℕ, ◌-◌, ◌⊎◌, inl, inr, List, [], ◌∷◌, get_or, arith, refl, sym, ap, subst, ◌∙◌}
+use Rattle.std.proofs.Common.{◌≡◌, ◌<◌, ℕ, ◌-◌, ◌⊎◌, inl, inr, List, [], ◌∷◌, get_or, arith, refl, sym, ap}
+use Rattle.std.proofs.Common.{subst, ◌∙◌}
 use Rattle.std.proofs.lemmas.Bool.{cases_order}
 use Rattle.std.specs.List.{IsAmong}
 use Rattle.x_trees.specs.Tree.{Definition}
@@ -29,7 +30,8 @@ rest_ascends f [] h = tt
 rest_ascends f (g ∷ rest) h = h.1
 
 -- the first stands before all others
-pub first_before : (f : WordFault) (rest : List WordFault) (x : WordFault) → Ascends (f ∷ rest) → IsAmong rest x → IsBefore f x
+pub first_before : (f : WordFault) (rest : List WordFault) (x : WordFault) → Ascends (f ∷ rest)
+    → IsAmong rest x → IsBefore f x
 first_before f [] x h k = absurd (among_none x k)
 first_before f (g ∷ rest) x h k = by (among_cases g x rest k) (first_before g rest x h.1)
   where
@@ -42,7 +44,8 @@ first_before f (g ∷ rest) x h k = by (among_cases g x rest k) (first_before g 
 -- by their numbers from 20 on; there is no 35
 all_codes : List RuleCode
 all_codes =
-    codes.Duplicate ∷ codes.Unknown ∷ codes.LateName ∷ codes.NotType ∷ codes.NotConst ∷ codes.Range ∷ codes.BadSize ∷ codes.VoidPlace ∷ codes.EmptyArray ∷ codes.BadDiscriminant ∷ codes.BadCase
+    codes.Duplicate ∷ codes.Unknown ∷ codes.LateName ∷ codes.NotType ∷ codes.NotConst ∷ codes.Range
+    ∷ codes.BadSize ∷ codes.VoidPlace ∷ codes.EmptyArray ∷ codes.BadDiscriminant ∷ codes.BadCase
     ∷ codes.RepeatedCase ∷ codes.RepeatedField ∷ codes.RepeatedNumber ∷ codes.TooHigh
     ∷ codes.Duplicate ∷ codes.InlineArgument ∷ codes.UsesFaulty ∷ []
 
@@ -73,8 +76,12 @@ at_number codes.UsesFaulty = refl
 compared : (f g : WordFault) → Compared IsBefore f g
 compared f g = by (cases_order f.word g.word)
   where
-    at_word : f.word ≡ g.word → (rule_number f.code ≡ rule_number g.code) ⊎ ((rule_number f.code < rule_number g.code) ⊎ (rule_number g.code < rule_number f.code)) → Compared IsBefore f g
-    at_word same (inl e) = let code : f.code ≡ g.code = sym (at_number f.code) ∙ ap code_at e ∙ at_number g.code in inr (inl (λ i. record { word = same i; code = code i }))
+    at_word : f.word ≡ g.word → (rule_number f.code ≡ rule_number g.code)
+        ⊎ ((rule_number f.code < rule_number g.code) ⊎ (rule_number g.code < rule_number f.code))
+        → Compared IsBefore f g
+    at_word same (inl e) =
+        let code : f.code ≡ g.code = sym (at_number f.code) ∙ ap code_at e ∙ at_number g.code in
+        inr (inl (λ i. record { word = same i; code = code i }))
     at_word same (inr (inl lt)) = inl (inr (same, lt))
     at_word same (inr (inr lt)) = inr (inr (inr (sym same, lt)))
 
@@ -90,9 +97,11 @@ in_order [] h = tt
 in_order (f ∷ fs) h = (λ x k. first_before f fs x h k, in_order fs (rest_ascends f fs h))
 
 -- a definition has one list of faults
-pub one_faults : (d : Definition) (see : List ℕ → View) (fs gs : List WordFault) → AreFaults d see fs → AreFaults d see gs → fs ≡ gs
+pub one_faults : (d : Definition) (see : List ℕ → View) (fs gs : List WordFault) → AreFaults d see fs
+    → AreFaults d see gs → fs ≡ gs
 one_faults d see fs gs h k =
-    one_order IsBefore not_both fs gs (in_order fs h.ascend) (in_order gs k.ascend) (λ x j. k.are_all x.word x.code (h.are_faults x j)) (λ x j. h.are_all x.word x.code (k.are_faults x j))
+    one_order IsBefore not_both fs gs (in_order fs h.ascend) (in_order gs k.ascend)
+    (λ x j. k.are_all x.word x.code (h.are_faults x j)) (λ x j. h.are_all x.word x.code (k.are_faults x j))
 
 ascends : (fs : List WordFault) → AreInOrder IsBefore fs → Ascends fs
 ascends [] h = tt
@@ -107,4 +116,5 @@ pub record Ascending (fs : List WordFault) : Type 0 where
   pub kept : (f : WordFault) → IsAmong fs f → IsAmong list f
 
 pub ascending : (fs : List WordFault) → Ascending fs
-ascending fs = let o = ordered IsBefore before_trans compared fs in record { list = o.list; ascend = ascends o.list o.in_order; from = o.from; kept = o.kept }
+ascending fs = let o = ordered IsBefore before_trans compared fs in
+    record { list = o.list; ascend = ascends o.list o.in_order; from = o.from; kept = o.kept }

@@ -3,7 +3,8 @@ use Rattle.std.proofs.Common.{◌≡◌, ℕ, suc, ◌+◌, ◌-◌, ◌^◌, mi
 use Rattle.x_rules.specs.Tables.{capped}
 
 -- one more is held
-pub higher : (h r a b total : ℕ) → r ≡ capped a → max h (capped (max a b)) ≡ total → max (max h r) (capped b) ≡ total
+pub higher : (h r a b total : ℕ) → r ≡ capped a → max h (capped (max a b)) ≡ total
+    → max (max h r) (capped b) ≡ total
 higher h r a b total e all = omega (arith, e, all)
 
 -- no more is held

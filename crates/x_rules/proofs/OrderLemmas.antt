@@ -10,7 +10,9 @@ use Rattle.x_rules.specs.contracts.fault.RuleCode.{the_type}
 use Rattle.x_rules.specs.declared.fault.WordFault.{WordFault}
 use Rattle.x_rules.proofs.RuleTextLemmas.{number_rises}
 
-pub strict_ascends : (cmp : WordFault → WordFault → Ordering) → ((x y : WordFault) → cmp x y ≡ Less → IsBefore x y) → (xs : List WordFault) → IsStrictlySortedBy cmp xs → Ascends xs
+pub strict_ascends : (cmp : WordFault → WordFault → Ordering)
+    → ((x y : WordFault) → cmp x y ≡ Less → IsBefore x y) → (xs : List WordFault) → IsStrictlySortedBy cmp xs
+    → Ascends xs
 unfolding IsStrictlySortedBy
 strict_ascends cmp less [] h = tt
 strict_ascends cmp less (x ∷ []) h = tt

@@ -30,7 +30,8 @@ within codes.InlineArgument = lit< tt
 within codes.UsesFaulty = lit< tt
 
 -- which is the one at its place in the table
-pub text_is : (rule : RuleCode) → slice_index_or (map (λ text. text.now) RULE_TEXTS) (tag_of the_type rule) [] ≡ rule_text rule
+pub text_is : (rule : RuleCode) → slice_index_or (map (λ text. text.now) RULE_TEXTS) (tag_of the_type rule) []
+    ≡ rule_text rule
 text_is codes.Duplicate = refl
 text_is codes.Unknown = refl
 text_is codes.LateName = refl
@@ -80,4 +81,6 @@ rises a b lt = grind (arith, nat_tests)
 -- a rule in front of another has the lower number
 pub number_rises : (a b : RuleCode) → tag_of the_type a < tag_of the_type b → rule_number a < rule_number b
 number_rises a b lt =
-    subst (λ n. n < rule_number b) (at_place a) (subst (λ n. number_at (tag_of the_type a) < n) (at_place b) (rises (tag_of the_type a) (tag_of the_type b) lt))
+    subst (λ n. n < rule_number b) (at_place a)
+    (subst (λ n. number_at (tag_of the_type a) < n) (at_place b)
+    (rises (tag_of the_type a) (tag_of the_type b) lt))

@@ -56,15 +56,15 @@ abbrev pub number_given : (List ℕ → View) → List Known → Option ℤ → 
 number_given see known before word is_first (Some v) = number_by see known word v
 number_given see known before word is_first None = if is_first then Some (pos 0) else next_number before
 
-abbrev pub number_of : (List ℕ → View) → List Known → Option ℤ → EnumeratorAt → Option ℤ
-number_of see known before e = number_given see known before e.word e.is_first e.given
+abbrev pub enumerator_number : (List ℕ → View) → List Known → Option ℤ → EnumeratorAt → Option ℤ
+enumerator_number see known before e = number_given see known before e.word e.is_first e.given
 
 -- these and the enumerators behind them, each with its number; `before` is the number of the last of these
 abbrev pub known_with : (List ℕ → View) → List Known → Option ℤ → List EnumeratorAt → List Known
 known_with see known before [] = known
 known_with see known before (e ∷ es) =
-    known_with see (known ++ record { enumerator = e; number = number_of see known before e } ∷ [])
-    (number_of see known before e) es
+    known_with see (known ++ record { enumerator = e; number = enumerator_number see known before e } ∷ [])
+    (enumerator_number see known before e) es
 
 -- the enumerators with their numbers
 abbrev pub knowns : (List ℕ → View) → List EnumeratorAt → List Known

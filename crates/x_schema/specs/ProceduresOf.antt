@@ -91,8 +91,8 @@ abbrev pub procedures_of : List (Option tree.Definition) → List Numbered
 procedures_of definitions = flat_map procedures_declared definitions
 
 -- a number of 32 bits as it is spelled
-abbrev pub number_of : List ℕ → Option ℕ
-number_of text = option_and_then unsigned_word (number_spelled text)
+abbrev pub word_spelled : List ℕ → Option ℕ
+word_spelled text = option_and_then unsigned_word (number_spelled text)
 
 -- the numbers of a procedure, where each is one of 32 bits
 abbrev pub numbers_from : Option ℕ → Option ℕ → Option ℕ → Option ProcedureNumbers
@@ -101,7 +101,8 @@ numbers_from (Some program) (Some version) (Some procedure) =
 numbers_from _ _ _ = None
 
 abbrev pub numbers_by : Numbered → Option ProcedureNumbers
-numbers_by p = numbers_from (number_of p.program) (number_of p.version) (number_of p.procedure.number)
+numbers_by p =
+    numbers_from (word_spelled p.program) (word_spelled p.version) (word_spelled p.procedure.number)
 
 -- procedures by their numbers
 abbrev pub Table : Type 0

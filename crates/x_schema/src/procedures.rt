@@ -6,7 +6,7 @@ ghost use Rattle.x_trees.specs.View.{view_version};
 ghost use Rattle.x_trees.specs.View.{tree_at};
 ghost use Rattle.x_schema.specs.ProceduresOf.{AreArguments, IsArgument, IsArgumentField};
 ghost use Rattle.x_schema.specs.ProceduresOf.{IsPassed, IsPassedType};
-ghost use Rattle.x_schema.specs.ProceduresOf.{IsProcedure, number_of, numbers_by, numbers_from};
+ghost use Rattle.x_schema.specs.ProceduresOf.{IsProcedure, word_spelled, numbers_by, numbers_from};
 ghost use Rattle.x_schema.specs.ProceduresOf.{procedures_by, procedures_in, with_procedure};
 ghost use Rattle.x_schema.specs.ProceduresOf.{argument_name, procedures_declared, procedures_of};
 ghost use Rattle.x_schema.specs.ProcedureMaking.{PutsAs, PutsField, PutsFields, PutsProcedures, PutsWithin};
@@ -29,8 +29,8 @@ use x_trees::{Argument, DataType, Definition, Procedure, Version};
 pub type ProcedureTable = KeyedTable<ProcedureNumbers, CompactProcedure>;
 
 /// A number of 32 bits as it is spelled.
-fn number_of(text: &[u8]) -> Option<u32>
-    ensures { result ≡ number_of text.now }
+fn word_spelled(text: &[u8]) -> Option<u32>
+    ensures { result ≡ word_spelled text.now }
 {
     match number_value(text) {
         Some(number) => unsigned_word(number),
@@ -63,9 +63,9 @@ fn numbers_by(program: &[u8], version: &[u8], procedure: &Procedure) -> Option<P
         (record { program = program.now; version = version.now; procedure = view_procedure procedure.now }) }
 {
     numbers_from(
-        number_of(program),
-        number_of(version),
-        number_of(&procedure.number),
+        word_spelled(program),
+        word_spelled(version),
+        word_spelled(&procedure.number),
     )
 }
 

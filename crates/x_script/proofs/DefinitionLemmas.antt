@@ -1,5 +1,6 @@
 -- The definitions of a text, listed item by item.
-use Rattle.std.proofs.Common.{◌≡◌, ℕ, zero, suc, ◌+◌, ◌≤◌, List, [], ◌∷◌, drop, length, Option, None, Some, refl, sym, ap, subst, ◌∙◌, arith}
+use Rattle.std.proofs.Common.{◌≡◌, ℕ, zero, suc, ◌+◌, ◌≤◌, List, [], ◌∷◌, drop, length, Option, None, Some}
+use Rattle.std.proofs.Common.{refl, sym, ap, subst, ◌∙◌, arith}
 use Rattle.x_streams.specs.Streams.{Stream}
 use Rattle.std.specs.Prelude.{slice_get, option_and_then}
 use Rattle.std.specs.List.{flat_map}
@@ -16,11 +17,13 @@ use Rattle.x_lists.proofs.ListLemmas.{drop_none}
 use Rattle.x_text.proofs.Listing.{HasListed, lists_none, lists_more, lists_all}
 
 -- the definitions of the first items are listed
-pub record HasDefinitions (known : KnownText) (text : List ℕ) (n : ℕ) (p : Inked) (before : Stream) (q : Inked) (now : Stream) : Type 0 where
+pub record HasDefinitions (known : KnownText) (text : List ℕ) (n : ℕ) (p : Inked) (before : Stream)
+    (q : Inked) (now : Stream) : Type 0 where
   pub tokens : List (Kind × ℕ)
   pub items : List Item
   pub compiles : IsCompilation known text tokens items
-  pub listed : HasListed (ℕ × Definition) definition_line (numbered 0 (definitions_of items)) (numbered n (drop n (definitions_of items))) p before q now
+  pub listed : HasListed (ℕ × Definition) definition_line (numbered 0 (definitions_of items))
+      (numbered n (drop n (definitions_of items))) p before q now
 
 -- what stands at an index
 data IsAt (ds : List (Option Definition)) (n : ℕ) (o : Option Definition) : Type 0 where
@@ -37,20 +40,31 @@ at (d ∷ ds) (suc n) = by (at ds n)
     by (Behind i e f) = Behind i e f
     by (At e) = At e
 
-passed : (ds : List (Option Definition)) (n : ℕ) (o : Option Definition) → IsAt ds n o → o ≡ None → numbered n (drop n ds) ≡ numbered (suc n) (drop (suc n) ds)
+passed : (ds : List (Option Definition)) (n : ℕ) (o : Option Definition) → IsAt ds n o → o ≡ None
+    → numbered n (drop n ds) ≡ numbered (suc n) (drop (suc n) ds)
 passed ds n o (Behind i e f) none = ap (numbered n) e ∙ sym (ap (numbered (suc n)) f)
 passed ds n o (At e) none = ap (numbered n) (e ∙ ap (λ d. d ∷ drop (suc n) ds) none)
 
-met : (ds : List (Option Definition)) (n : ℕ) (o : Option Definition) (t : Definition) → IsAt ds n o → o ≡ Some t → numbered n (drop n ds) ≡ (n, t) ∷ numbered (suc n) (drop (suc n) ds)
+met : (ds : List (Option Definition)) (n : ℕ) (o : Option Definition) (t : Definition) → IsAt ds n o
+    → o ≡ Some t → numbered n (drop n ds) ≡ (n, t) ∷ numbered (suc n) (drop (suc n) ds)
 met ds n o t (Behind i e f) some = absurd (cc)
 met ds n o t (At e) some = ap (numbered n) (e ∙ ap (λ d. d ∷ drop (suc n) ds) some)
 
-pub definitions_none : (known : KnownText) (text : List ℕ) (p : Inked) (now : Stream) → Compiles known text (λ items. Unit {0}) → HasDefinitions known text 0 p now p now
-definitions_none known text p now c = record { tokens = c.0; items = c.1; compiles = c.2; listed = lists_none definition_line (numbered 0 (definitions_of c.1)) p now }
+pub definitions_none : (known : KnownText) (text : List ℕ) (p : Inked) (now : Stream)
+    → Compiles known text (λ items. Unit {0}) → HasDefinitions known text 0 p now p now
+definitions_none known text p now c =
+    record {
+      tokens = c.0;
+      items = c.1;
+      compiles = c.2;
+      listed = lists_none definition_line (numbered 0 (definitions_of c.1)) p now;
+    }
 
 -- the item has no definition
-pub definitions_on : (known : KnownText) (text : List ℕ) (n m : ℕ) (o : Option Definition) (p q : Inked) (a b : Stream) → m ≡ n + 1 → o ≡ None
-    → Compiles known text (λ items. o ≡ definition_at items n) → HasDefinitions known text n p a q b → HasDefinitions known text m p a q b
+pub definitions_on : (known : KnownText) (text : List ℕ) (n m : ℕ) (o : Option Definition) (p q : Inked)
+    (a b : Stream) → m ≡ n + 1 → o ≡ None
+    → Compiles known text (λ items. o ≡ definition_at items n) → HasDefinitions known text n p a q b
+    → HasDefinitions known text m p a q b
 definitions_on known text n m o p q a b next none c h =
     let same : c.1 ≡ h.items = (one_compilation known text c.0 h.tokens c.1 h.items c.2 h.compiles).1 in
     let ds = definitions_of h.items in
@@ -61,26 +75,34 @@ definitions_on known text n m o p q a b next none c h =
       tokens = h.tokens;
       items = h.items;
       compiles = h.compiles;
-      listed = subst (λ k. HasListed (ℕ × Definition) definition_line (numbered 0 ds) (numbered k (drop k ds)) p a q b) suc_is
+      listed = subst (λ k. HasListed (ℕ × Definition) definition_line (numbered 0 ds) (numbered k (drop k ds))
+          p a q b) suc_is
           (subst (λ l. HasListed (ℕ × Definition) definition_line (numbered 0 ds) l p a q b) step h.listed);
     }
 
 -- the item's definition is added
-pub definitions_more : (known : KnownText) (text : List ℕ) (n m : ℕ) (o : Option Definition) (t : Definition) (p q r : Inked) (a b c : Stream) → m ≡ n + 1 → o ≡ Some t
-    → Compiles known text (λ items. o ≡ definition_at items n) → HasDefinitions known text n p a q b → Adds q b r c (definition_line (n, t)) → HasDefinitions known text m p a r c
+pub definitions_more : (known : KnownText) (text : List ℕ) (n m : ℕ) (o : Option Definition) (t : Definition)
+    (p q r : Inked) (a b c : Stream) → m ≡ n + 1 → o ≡ Some t
+    → Compiles known text (λ items. o ≡ definition_at items n) → HasDefinitions known text n p a q b
+    → Adds q b r c (definition_line (n, t)) → HasDefinitions known text m p a r c
 definitions_more known text n m o t p q r a b c next some found so more =
-    let same : found.1 ≡ so.items = (one_compilation known text found.0 so.tokens found.1 so.items found.2 so.compiles).1 in
+    let same : found.1 ≡ so.items =
+    (one_compilation known text found.0 so.tokens found.1 so.items found.2 so.compiles).1 in
     let ds = definitions_of so.items in
-    let here : definition_at so.items n ≡ Some t = sym (found.3 ∙ ap (λ is. definition_at is n) same) ∙ some in
+    let here : definition_at so.items n ≡ Some t =
+    sym (found.3 ∙ ap (λ is. definition_at is n) same) ∙ some in
     let step = met ds n (definition_at so.items n) t (at ds n) here in
     let suc_is : suc n ≡ m = omega (arith, next) in
-    let listed = subst (λ l. HasListed (ℕ × Definition) definition_line (numbered 0 ds) l p a q b) step so.listed in
+    let listed = subst (λ l. HasListed (ℕ × Definition) definition_line (numbered 0 ds) l p a q b) step
+    so.listed in
     record {
       tokens = so.tokens;
       items = so.items;
       compiles = so.compiles;
-      listed = subst (λ k. HasListed (ℕ × Definition) definition_line (numbered 0 ds) (numbered k (drop k ds)) p a r c) suc_is
-          (lists_more definition_line (numbered 0 ds) (numbered (suc n) (drop (suc n) ds)) (n, t) p q r a b c listed more);
+      listed = subst (λ k. HasListed (ℕ × Definition) definition_line (numbered 0 ds) (numbered k (drop k ds))
+          p a r c) suc_is
+          (lists_more definition_line (numbered 0 ds) (numbered (suc n) (drop (suc n) ds)) (n, t) p q r a b c
+          listed more);
     }
 
 length-definitions : (items : List Item) → length (definitions_of items) ≡ length items
@@ -88,11 +110,18 @@ length-definitions [] = refl
 length-definitions (i ∷ is) = ap suc (length-definitions is)
 
 -- no item is left
-pub definitions_all : (known : KnownText) (text : List ℕ) (n count : ℕ) (p q : Inked) (a b : Stream) → count ≤ n → Compiles known text (λ items. count ≡ length items)
-    → HasDefinitions known text n p a q b → Compiles known text (λ items. Adds p a q b (flat_map definition_line (numbered 0 (definitions_of items))))
+pub definitions_all : (known : KnownText) (text : List ℕ) (n count : ℕ) (p q : Inked) (a b : Stream)
+    → count ≤ n → Compiles known text (λ items. count ≡ length items)
+    → HasDefinitions known text n p a q b
+    → Compiles known text
+    (λ items. Adds p a q b (flat_map definition_line (numbered 0 (definitions_of items))))
 definitions_all known text n count p q a b over c h =
     let same : c.1 ≡ h.items = (one_compilation known text c.0 h.tokens c.1 h.items c.2 h.compiles).1 in
     let ds = definitions_of h.items in
     let long : length ds ≡ count = length-definitions h.items ∙ sym (c.3 ∙ ap length same) in
-    let none = ap (numbered n) (drop_none ds n (omega (arith, over, long))) in
-    (h.tokens, h.items, h.compiles, lists_all definition_line (numbered 0 ds) (numbered n (drop n ds)) p q a b none h.listed)
+    let none = ap (numbered n) (drop_none ds n (omega (arith, over, long))) in (
+      h.tokens,
+      h.items,
+      h.compiles,
+      lists_all definition_line (numbered 0 ds) (numbered n (drop n ds)) p q a b none h.listed,
+    )

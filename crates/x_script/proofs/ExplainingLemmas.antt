@@ -18,14 +18,16 @@ use Rattle.x_script.specs.Giving.{GivesBy}
 use Rattle.x_script.specs.Situations.{Over, Situation}
 
 -- how many faults there are, and what explains them
-pub explained_given : (s : Situation) (known : KnownText) (foreign : List ForeignName) (count : ℕ) (p q r : Inked)
+pub explained_given : (s : Situation) (known : KnownText) (foreign : List ForeignName) (count : ℕ)
+    (p q r : Inked)
     (a b c : Stream) → IsBefore s.how.files s.how.from s.text known
     → Compiles known s.text (λ items. count ≡ length (faults_of s.text items))
     → Compiles known s.text (λ items. AreForeign s.how.files s.how.from s.text items foreign)
     → Adds p a q b (counted_line (codes "explained") count)
     → Compiles known s.text (λ items. (said : List ℕ)
     × AreExplained s.how.places foreign (telling_of s.how.file s.text) items said × Adds q b r c said)
-    → GivesBy (λ how here x. Over how here (λ known items. IsExplainAnswer how here items x)) s s (Ok false) p a r c
+    → GivesBy (λ how here x. Over how here (λ known items. IsExplainAnswer how here items x)) s s
+    (Ok false) p a r c
 explained_given s known foreign count p q r a b c before many are one all =
     let text = s.text in
     let items = all.1 in

@@ -22,7 +22,8 @@ module _ (p q : Inked) (now now' : Stream) where
   -- an edit is answered as one, whatever the items of the text are
   pub edit_given : (old new : Situation) (r : Result Bool NoMemory) (command : Command) (start end : ℕ)
       (insert bytes : List ℕ) → command ≡ commands.Edit start end insert → bytes ≡ insert
-      → GivesBy (λ how here a. a ≡ edit_answer (record { old = here; start = start; end = end; insert = bytes }))
+      → GivesBy (λ how here a. a
+      ≡ edit_answer (record { old = here; start = start; end = end; insert = bytes }))
       old new r p now q now'
       → GivesBy (λ how here a. IsCommandAnswer how here command a) old new r p now q now'
   edit_given old new (Ok refused) command start end insert bytes is same h = (

@@ -26,43 +26,66 @@ use Rattle.x_script.specs.Script.{AddsAnswer, TellsOver}
 use Rattle.x_script.specs.declared.script.refusal.LineRefusal.TheVariants as refusals
 use Rattle.x_script.specs.Situations.{How}
 use Rattle.x_session.specs.Session.{Compiles}
-use Rattle.x_script.specs.Showing.{IsMessageAnswer, IsTypedAnswer, IsDumpAnswer, shown, stuck, no_type, typed, faulty, faultless, value_answer}
+use Rattle.x_script.specs.Showing.{IsMessageAnswer, IsTypedAnswer, IsDumpAnswer, shown, stuck, no_type, typed}
+use Rattle.x_script.specs.Showing.{faulty, faultless, value_answer}
 use Rattle.x_session.specs.Typed.{GivesSchema}
 use Rattle.x_session.specs.declared.session.schema_fault.SchemaFault.{SchemaFault}
 use Rattle.x_session.specs.declared.session.schema_fault.SchemaFault.TheVariants.{Faulty}
 
 module _ (p q : Inked) (now now' : Stream) where
-  pub tells_shown : (s : Schema) (id : TypeId) (message : List ℕ) (nodes : List Node) → IsShown s id message nodes
+  pub tells_shown : (s : Schema) (id : TypeId) (message : List ℕ) (nodes : List Node)
+      → IsShown s id message nodes
       → Adds p now q now' (value_answer nodes) → TellsOver (IsMessageAnswer s id message) false p now q now'
-  tells_shown s id message nodes is added text =
-      (answered text (value_answer nodes), shown nodes is refl, record { added = added; refused_is = refl; text_is = refl })
+  tells_shown s id message nodes is added text = (
+    answered text (value_answer nodes),
+    shown nodes is refl,
+    record { added = added; refused_is = refl; text_is = refl },
+  )
 
-  pub tells_stuck : (s : Schema) (id : TypeId) (message : List ℕ) (at : ℕ) (code : ReadCode) → IsReadFault s id message at code
-      → (code ≡ codes_of.NoMemory → ⊥) → Adds p now q now' (fault_line at code) → TellsOver (IsMessageAnswer s id message) true p now q now'
-  tells_stuck s id message at code is other added text =
-      (refused text (fault_line at code), stuck at code is other refl, record { added = added; refused_is = refl; text_is = refl })
+  pub tells_stuck : (s : Schema) (id : TypeId) (message : List ℕ) (at : ℕ) (code : ReadCode)
+      → IsReadFault s id message at code
+      → (code ≡ codes_of.NoMemory → ⊥) → Adds p now q now' (fault_line at code)
+      → TellsOver (IsMessageAnswer s id message) true p now q now'
+  tells_stuck s id message at code is other added text = (
+    refused text (fault_line at code),
+    stuck at code is other refl,
+    record { added = added; refused_is = refl; text_is = refl },
+  )
 
   pub tells_no_type : (s : Schema) (name message : List ℕ) → id_named s name ≡ None
-      → Adds p now q now' (refusal_line refusals.NoType) → TellsOver (IsTypedAnswer s name message) true p now q now'
-  tells_no_type s name message none added text =
-      (refused_by text refusals.NoType, no_type none refl, record { added = added; refused_is = refl; text_is = refl })
+      → Adds p now q now' (refusal_line refusals.NoType)
+      → TellsOver (IsTypedAnswer s name message) true p now q now'
+  tells_no_type s name message none added text = (
+    refused_by text refusals.NoType,
+    no_type none refl,
+    record { added = added; refused_is = refl; text_is = refl },
+  )
 
-  pub tells_typed : (s : Schema) (id : TypeId) (name message : List ℕ) (r : Result Bool NoMemory) → id_named s name ≡ Some id
+  pub tells_typed : (s : Schema) (id : TypeId) (name message : List ℕ) (r : Result Bool NoMemory)
+      → id_named s name ≡ Some id
       → IfOk r (λ refused. TellsOver (IsMessageAnswer s id message) refused p now q now')
       → IfOk r (λ refused. TellsOver (IsTypedAnswer s name message) refused p now q now')
-  tells_typed s id name message (Ok b) is h = λ text. (let told = h text in (told.0, typed id is told.1, told.2))
+  tells_typed s id name message (Ok b) is h =
+      λ text. (let told = h text in (told.0, typed id is told.1, told.2))
   tells_typed s id name message (Err e) is h = h
 
-  pub tells_faulty : (known : KnownText) (text : List ℕ) (items : List Item) (name message : List ℕ) (r : Result Schema SchemaFault) → r ≡ Err Faulty → GivesSchema known text items r
+  pub tells_faulty : (known : KnownText) (text : List ℕ) (items : List Item) (name message : List ℕ)
+      (r : Result Schema SchemaFault) → r ≡ Err Faulty → GivesSchema known text items r
       → Adds p now q now' (refusal_line refusals.Faulty)
       → (a : Answer) × IsDumpAnswer known text items name message a × AddsAnswer a text true p now q now'
-  tells_faulty known text items name message r is gives added =
-      (refused_by text refusals.Faulty, faulty (subst (GivesSchema known text items) is gives) refl, record { added = added; refused_is = refl; text_is = refl })
+  tells_faulty known text items name message r is gives added = (
+    refused_by text refusals.Faulty,
+    faulty (subst (GivesSchema known text items) is gives) refl,
+    record { added = added; refused_is = refl; text_is = refl },
+  )
 
-  pub tells_faultless : (known : KnownText) (text name message : List ℕ) (s : Schema) (r : Result Schema SchemaFault) (t : Result Bool NoMemory) → r ≡ Ok s
+  pub tells_faultless : (known : KnownText) (text name message : List ℕ) (s : Schema)
+      (r : Result Schema SchemaFault) (t : Result Bool NoMemory) → r ≡ Ok s
       → Compiles known text (λ items. GivesSchema known text items r)
       → IfOk t (λ refused. TellsOver (IsTypedAnswer s name message) refused p now q now')
-      → IfOk t (λ refused. Compiles known text (λ items. (a : Answer) × IsDumpAnswer known text items name message a × AddsAnswer a text refused p now q now'))
+      → IfOk t (λ refused. Compiles known text
+      (λ items. (a : Answer) × IsDumpAnswer known text items name message a
+      × AddsAnswer a text refused p now q now'))
   tells_faultless known text name message s r (Ok b) is gives h =
       let given = subst (GivesSchema known text gives.1) is gives.3 in
       let told = h text in
@@ -71,7 +94,8 @@ module _ (p q : Inked) (now now' : Stream) where
 
 -- what is told of a value by the items of a text
 module _ (p q : Inked) (now now' : Stream) (how : How) {known : KnownText} (text name message : List ℕ) where
-  pub shown_faulty : (count : ℕ) → 0 < count → Compiles known text (λ items. count ≡ length (faults_of text items))
+  pub shown_faulty : (count : ℕ) → 0 < count
+      → Compiles known text (λ items. count ≡ length (faults_of text items))
       → Adds p now q now' (refusal_line refusals.Faulty)
       → Compiles known text (λ items. (a : Answer) × IsShownBy how known text items name message a
       × AddsAnswer a text true p now q now')
@@ -100,7 +124,8 @@ module _ (p q : Inked) (now now' : Stream) (how : How) {known : KnownText} (text
         leads.2,
         (
           refused text (unknown_line spot),
-          answers.leads spot (nil_from_length (faults_of text leads.1) (omega (arith, none, many))) leads.3 refl,
+          answers.leads spot (nil_from_length (faults_of text leads.1) (omega (arith, none, many)))
+              leads.3 refl,
           record { added = added; refused_is = refl; text_is = refl },
         ),
       )

@@ -24,8 +24,8 @@ bytes_of (high ∷ low ∷ rest) = (16 * digit_value high + digit_value low) ∷
 bytes_of _ = []
 
 -- an edit from one number to another
-abbrev pub edit_of : List ℕ → List ℕ → List ℕ → Command
-edit_of start end insert =
+abbrev pub edit_line : List ℕ → List ℕ → List ℕ → Command
+edit_line start end insert =
     if is_number start && is_number end then Edit (digits_value 10 start) (digits_value 10 end) insert
     else Bad
 
@@ -43,8 +43,8 @@ one_word name =
 
 -- what the words behind `edit` ask for
 abbrev pub edit_by : List (List ℕ) → Command
-edit_by (start ∷ end ∷ []) = edit_of start end []
-edit_by (start ∷ end ∷ hex ∷ []) = if is_hex hex then edit_of start end (bytes_of hex) else Bad
+edit_by (start ∷ end ∷ []) = edit_line start end []
+edit_by (start ∷ end ∷ hex ∷ []) = if is_hex hex then edit_line start end (bytes_of hex) else Bad
 edit_by _ = Bad
 
 -- what the words of a line ask for

@@ -90,56 +90,57 @@ abbrev pub IsFrontOf : List ℕ → (List (List ℕ) → Type 0) → Type 0
 IsFrontOf script P =
     (lines : List (List ℕ)) × (rest : List (List ℕ)) × (script_lines script ≡ lines ++ rest) × P lines
 
--- These lines are answered: the sink, which held `before`, has their answers, and the session has the text
--- that they leave.
-pub record HasRun (lines : List (List ℕ)) (old new : Situation) (before after : Stream)
-    (refused : Bool) : Type 0 where
+-- a run: the session before it and after it, and the sink
+pub record ScriptRun : Type 0 where
+  pub old : Situation
+  pub new : Situation
+  pub before : Stream
+  pub after : Stream
+
+abbrev pub script_run : (old new : Situation) (before after : Stream) → ScriptRun
+script_run old new before after = record { old = old; new = new; before = before; after = after }
+
+-- These lines are answered: the sink has their answers behind what it held, and the session has the text that
+-- they leave.
+pub record HasRun (lines : List (List ℕ)) (c : ScriptRun) (refused : Bool) : Type 0 where
   pub all : Answer
-  pub answered : AreAnswered old.how old.text lines all
-  pub written : Appends before.bytes after.bytes all.told
+  pub answered : AreAnswered c.old.how c.old.text lines all
+  pub written : Appends c.before.bytes c.after.bytes all.told
   pub refused_is : refused ≡ all.refused
-  pub session_is : Leaves old new all.text
+  pub session_is : Leaves c.old c.new all.text
 
 -- These lines are answered, and so many bytes were written.
-pub record HasStopped (lines : List (List ℕ)) (old new : Situation) (before after : Stream)
-    (written : ℕ) : Type 0 where
+pub record HasStopped (lines : List (List ℕ)) (c : ScriptRun) (written : ℕ) : Type 0 where
   pub refused : Bool
-  pub run : HasRun lines old new before after refused
+  pub run : HasRun lines c refused
   pub written_is : written ≡ counted (length run.all.told)
 
 -- The earlier lines have these answers in all, and the sink has them whole; it failed within the last line's
 -- answer, and the session has the text that this leaves.
-pub record FailsWithin (all last : Answer) (old new : Situation) (before after : Stream)
-    (written : ℕ) : Type 0 where
-  pub front : HasFront before after (all.told ++ last.told) written
+pub record FailsWithin (all last : Answer) (c : ScriptRun) (written : ℕ) : Type 0 where
+  pub front : HasFront c.before c.after (all.told ++ last.told) written
   pub whole : counted (length all.told) ≤ written
-  pub session_is : Leaves old new last.text
+  pub session_is : Leaves c.old c.new last.text
 
 -- These lines are carried out, and the sink failed within the answer of the last of them.
-pub record HasFailed (lines : List (List ℕ)) (old new : Situation) (before after : Stream)
-    (written : ℕ) : Type 0 where
+pub record HasFailed (lines : List (List ℕ)) (c : ScriptRun) (written : ℕ) : Type 0 where
   pub earlier : List (List ℕ)
   pub last : List ℕ
   pub lines_are : lines ≡ earlier ++ last ∷ []
   pub all : Answer
-  pub answered : AreAnswered old.how old.text earlier all
-  pub within : LineAnswers old.how all.text last
-      (λ a. FailsWithin all a old new before after written)
+  pub answered : AreAnswered c.old.how c.old.text earlier all
+  pub within : LineAnswers c.old.how all.text last (λ a. FailsWithin all a c written)
 
 -- What a run of a script does, of which the tap has `left` then. A fault of the reader comes behind the
 -- answers of all lines that a line feed ends in what was read, want of memory behind those of some lines,
 -- from the first on, and a fault of the sink within an answer.
-abbrev pub Runs : (script : List ℕ) (left : Option (List ℕ)) (old new : Situation)
-    (before after : Stream) → Result Outcome EngineFault → Type 0
-Runs script left old new before after (Ok outcome) =
-    HasRun (script_lines script) old new before after (is_refused outcome)
-Runs script left old new before after (Err (Read written)) =
-    (read : List ℕ) × Consumes (Some script) left read
-    × HasStopped (whole_lines read) old new before after written
-Runs script left old new before after (Err (NoMemory written)) =
-    IsFrontOf script (λ lines. HasStopped lines old new before after written)
-Runs script left old new before after (Err (Write written)) =
-    IsFrontOf script (λ lines. HasFailed lines old new before after written) × (after.failed ≡ true)
+abbrev pub Runs : (script : List ℕ) (left : Option (List ℕ)) → ScriptRun → Result Outcome EngineFault → Type 0
+Runs script left c (Ok outcome) = HasRun (script_lines script) c (is_refused outcome)
+Runs script left c (Err (Read written)) =
+    (read : List ℕ) × Consumes (Some script) left read × HasStopped (whole_lines read) c written
+Runs script left c (Err (NoMemory written)) = IsFrontOf script (λ lines. HasStopped lines c written)
+Runs script left c (Err (Write written)) =
+    IsFrontOf script (λ lines. HasFailed lines c written) × (c.after.failed ≡ true)
 
 -- a step that finds no line leaves the sink alone, and one that finds a line adds to it
 abbrev pub AddsIfFound : {S : Type 0} → Result (Option Bool) LineFault → (sink sink' : S) → Type 0 → Type 0

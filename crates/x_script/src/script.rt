@@ -10,7 +10,7 @@ ghost use Rattle.x_script.specs.Giving.{GivesBy, Renews, is_question};
 ghost use Rattle.x_script.specs.LineAnswers.{IsCommandAnswer, IsLineAnswer};
 ghost use Rattle.x_script.specs.Situations.{situation};
 ghost use Rattle.x_lines.specs.declared.lines.TheConstants.{LONGEST};
-ghost use Rattle.x_script.specs.Script.{AddsAnswer, AddsIfFound, HasGiven, GoesOn, Runs};
+ghost use Rattle.x_script.specs.Script.{AddsAnswer, AddsIfFound, HasGiven, GoesOn, Runs, script_run};
 ghost use Rattle.x_script.specs.declared.script.ScriptFile.{ScriptFile};
 ghost use Rattle.x_streams.specs.Engines.{NamesCause};
 ghost use Rattle.x_lines.specs.Lines.{FailsBy};
@@ -64,8 +64,8 @@ pub fn run_script<R: Tap, S: Sink>(
     requires { IsOver text.now }
     ensures over { IsOver text.new }
     ensures runs { MatchOption (R.state tap.old).bytes (Unit {0})
-        (λ script. Runs script (R.state tap.new).bytes (situation file.now text.old)
-        (situation file.now text.new) (S.state sink.old) (S.state sink.new) result) }
+        (λ script. Runs script (R.state tap.new).bytes (script_run (situation file.now text.old)
+        (situation file.now text.new) (S.state sink.old) (S.state sink.new)) result) }
     ensures cause { NamesCause result (R.state tap.old).failed (R.state tap.new).failed
         (S.state sink.old).failed (S.state sink.new).failed }
 {

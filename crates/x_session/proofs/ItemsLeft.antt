@@ -1,5 +1,6 @@
 -- The items of a text, one after another.
-use Rattle.std.proofs.Common.{◌≡◌, ℕ, zero, suc, ◌<◌, ◌≤◌, Bool, true, false, Some, List, [], ◌∷◌, ◌++◌, length, map, take, drop, refl, ap, sym, subst, ◌∙◌, arith}
+use Rattle.std.proofs.Common.{◌≡◌, ℕ, zero, suc, ◌<◌, ◌≤◌, Bool, true, false, Some, List, [], ◌∷◌, ◌++◌}
+use Rattle.std.proofs.Common.{length, map, take, drop, refl, ap, sym, subst, ◌∙◌, arith}
 use Rattle.std.proofs.lemmas.List.{append-nil, length-map}
 use Rattle.x_lex.specs.Places.{Lexeme}
 use Rattle.x_cutting.specs.Cutting.{counts_from, roles_of}
@@ -19,21 +20,29 @@ AreLeft left [] = Unit {0}
 AreLeft left (item ∷ rest) = AreItems left (item ∷ rest)
 
 -- two lists of items of one list of tokens begin with the same item
-same_first : (left part left' : List Lexeme) (item : List Lexeme) (rest more : List (List Lexeme)) → AreItems left (item ∷ rest) → AreItems left (part ∷ more) → left ≡ part ++ left'
+same_first : (left part left' : List Lexeme) (item : List Lexeme) (rest more : List (List Lexeme))
+    → AreItems left (item ∷ rest) → AreItems left (part ∷ more) → left ≡ part ++ left'
     → (item ≡ part) × (joined rest ≡ left') × (map length rest ≡ map length more)
 same_first left part left' item rest more h k is =
-    let one : IsCut left (map length (item ∷ rest)) = record { items = item ∷ rest; are = h; lengths = refl } in
-    let two : IsCut left (map length (part ∷ more)) = record { items = part ∷ more; are = k; lengths = refl } in
-    let same : length item ∷ map length rest ≡ length part ∷ map length more = same_cut left (map length (item ∷ rest)) (map length (part ∷ more)) one two in
+    let one : IsCut left (map length (item ∷ rest)) =
+    record { items = item ∷ rest; are = h; lengths = refl } in
+    let two : IsCut left (map length (part ∷ more)) =
+    record { items = part ∷ more; are = k; lengths = refl } in
+    let same : length item ∷ map length rest ≡ length part ∷ map length more =
+    same_cut left (map length (item ∷ rest)) (map length (part ∷ more)) one two in
     let count : length item ≡ length part = cc in
     let counts : map length rest ≡ map length more = cc in
     let all : item ++ joined rest ≡ part ++ left' = h.all ∙ is in (
-      sym (take_part item (joined rest) (length part) (sym count)) ∙ ap (take (length part)) all ∙ take_part part left' (length part) refl,
-      sym (drop_part item (joined rest) (length part) (sym count)) ∙ ap (drop (length part)) all ∙ drop_part part left' (length part) refl,
+      sym (take_part item (joined rest) (length part) (sym count)) ∙ ap (take (length part)) all
+          ∙ take_part part left' (length part) refl,
+      sym (drop_part item (joined rest) (length part) (sym count)) ∙ ap (drop (length part)) all
+          ∙ drop_part part left' (length part) refl,
       counts,
     )
 
-behind : (whole : List (List Lexeme)) (last item next : List Lexeme) (rest : List (List Lexeme)) (left : List Lexeme) → item ∷ next ∷ rest ≡ whole ++ last ∷ [] → AreWhole whole → HasNoEnd last → joined (next ∷ rest) ≡ left
+behind : (whole : List (List Lexeme)) (last item next : List Lexeme) (rest : List (List Lexeme))
+    (left : List Lexeme) → item ∷ next ∷ rest ≡ whole ++ last ∷ [] → AreWhole whole → HasNoEnd last
+    → joined (next ∷ rest) ≡ left
     → AreItems left (next ∷ rest)
 behind [] last item next rest left parts each none all = absurd (cc)
 behind (w ∷ whole) last item next rest left parts each none all = record {
@@ -45,12 +54,15 @@ behind (w ∷ whole) last item next rest left parts each none all = record {
   rest = none;
 }
 
-left_behind : (left left' item : List Lexeme) (rest : List (List Lexeme)) → AreItems left (item ∷ rest) → joined rest ≡ left' → AreLeft left' rest
+left_behind : (left left' item : List Lexeme) (rest : List (List Lexeme)) → AreItems left (item ∷ rest)
+    → joined rest ≡ left' → AreLeft left' rest
 left_behind left left' item [] h all = tt
-left_behind left left' item (next ∷ rest) h all = behind h.whole h.last item next rest left' h.parts h.each h.rest all
+left_behind left left' item (next ∷ rest) h all =
+    behind h.whole h.last item next rest left' h.parts h.each h.rest all
 
 -- the part that is taken next is the first item, and the others are those of what is left then
-pub next_item_is : (whole : Bool) (left part left' item : List Lexeme) (rest : List (List Lexeme)) → AreItems left (item ∷ rest) → IsNext whole left part left' → (part ≡ item) × AreLeft left' rest
+pub next_item_is : (whole : Bool) (left part left' item : List Lexeme) (rest : List (List Lexeme))
+    → AreItems left (item ∷ rest) → IsNext whole left part left' → (part ≡ item) × AreLeft left' rest
 next_item_is true left part left' item rest h next =
     let cut = counts_cut left' (counts_from 0 0 (roles_of left')) refl in
     let are = cut.are in
@@ -73,7 +85,8 @@ next_item_is false left part left' item rest h next =
       each = tt;
       rest = next.0;
     } in
-    let same = same_first left part left' item rest [] h two (next.1 ∙ sym (append-nil part) ∙ ap (λ l. part ++ l) (sym next.2)) in
+    let same = same_first left part left' item rest [] h two
+    (next.1 ∙ sym (append-nil part) ∙ ap (λ l. part ++ l) (sym next.2)) in
     (sym same.0, left_behind left left' item rest h same.1)
 
 -- the item at an index, with what stands behind it
@@ -90,7 +103,8 @@ item_at (i ∷ is) (suc n) lt parses =
     let at = item_at is n (omega arith) parses.1 in
     record { item = at.item; here = at.here; definition = at.definition; parsed = at.parsed }
 
-pub all_left : (all walk : List Lexeme) (parts : List (List Lexeme)) → AreItems all parts → walk ≡ all → AreLeft walk parts
+pub all_left : (all walk : List Lexeme) (parts : List (List Lexeme)) → AreItems all parts → walk ≡ all
+    → AreLeft walk parts
 all_left all walk [] h is = tt
 all_left all walk (p ∷ ps) h is = subst (λ l. AreItems l (p ∷ ps)) (sym is) h
 
@@ -101,7 +115,8 @@ none_left (i ∷ is) zero le = absurd (omega arith)
 none_left (i ∷ is) (suc n) le = none_left is n (omega arith)
 
 -- the words of a definition are as many as fit
-pub short_definition : (part : List Lexeme) (p : Parse) (d : Definition) (n : ℕ) → IsParse part p → Some d ≡ parsed_definition p → length (words_in part) ≡ n → length (spell d) ≡ n
+pub short_definition : (part : List Lexeme) (p : Parse) (d : Definition) (n : ℕ) → IsParse part p
+    → Some d ≡ parsed_definition p → length (words_in part) ≡ n → length (spell d) ≡ n
 short_definition part Nothing d n parsed is long = absurd (cc)
 short_definition part (Def e) d n parsed is long =
     let same : d ≡ e = cc in

@@ -1,5 +1,6 @@
 -- A change takes one work.
-use Rattle.std.proofs.Common.{◌≡◌, ℕ, ◌+◌, true, List, [], ◌∷◌, ◌++◌, length, map, take, drop, refl, sym, ap, subst, ◌∙◌, arith}
+use Rattle.std.proofs.Common.{◌≡◌, ℕ, ◌+◌, true, List, [], ◌∷◌, ◌++◌, length, map, take, drop, refl, sym, ap}
+use Rattle.std.proofs.Common.{subst, ◌∙◌, arith}
 use Rattle.std.specs.List.{splice}
 use Rattle.std.proofs.lemmas.List.{length-map}
 use Rattle.x_text.specs.Edits.{Change, edited_by, LiesWithin}
@@ -20,7 +21,7 @@ use Rattle.x_recheck.specs.Staleness.{AreStale}
 use Rattle.x_recheck.proofs.StaleLists.{one_stale_list}
 use Rattle.x_compile.specs.Compile.{definitions_of}
 use Rattle.x_compile.specs.Known.{KnownText, known_names}
-use Rattle.x_follow.specs.Moves.{changed_items, moves, place_of, seat_behind}
+use Rattle.x_follow.specs.Moves.{changed_items, moves, splice_of, seat_behind}
 use Rattle.x_session.specs.Session.{Document}
 use Rattle.x_session.specs.Work.{AreStaleItems, IsWork, definitions_edit}
 use Rattle.x_session.specs.declared.session.work.Work.{Work}
@@ -52,18 +53,23 @@ one_stale known change ts us r q ks ls one h k =
     k.are in
     one_stale_list (definitions_edit known k.olds k.news q) (map (λ x. x.result) h.news) ks ls stale there
 
-pub one_work : (change : Change) (old d e : Document) (v w : Work) → LiesWithin change → IsWork change old d v → IsWork change old e w → (v ≡ w) × (d.token_seat ≡ e.token_seat) × (d.item_seat ≡ e.item_seat)
+pub one_work : (change : Change) (old d e : Document) (v w : Work) → LiesWithin change → IsWork change old d v
+    → IsWork change old e w → (v ≡ w) × (d.token_seat ≡ e.token_seat) × (d.item_seat ≡ e.item_seat)
 one_work change old d e v w within h k =
     let ts = h.tokens in
     let same : ts ≡ k.tokens = same_tiles true change.old ts k.tokens h.are_tokens k.are_tokens in
     let back = sym same in
-    let patch : h.patch ≡ k.patch = meeting.same_patch change ts h.patch k.patch h.is_patch (subst (λ t. IsPatch change t k.patch) back k.is_patch) in
+    let patch : h.patch ≡ k.patch = meeting.same_patch change ts h.patch k.patch h.is_patch
+    (subst (λ t. IsPatch change t k.patch) back k.is_patch) in
     let cut = subst (λ t. IsCut (lexemes change.old t) (counts k.items)) back k.are_items in
-    let items : counts k.items ≡ counts h.items = sym (same_cut (lexemes change.old ts) (counts h.items) (counts k.items) h.are_items cut) in
+    let items : counts k.items ≡ counts h.items =
+    sym (same_cut (lexemes change.old ts) (counts h.items) (counts k.items) h.are_items cut) in
     let there : IsItemPatch change ts (tokens.patched ts h.patch) h.items k.recut =
     same_patch change ts (tokens.patched ts h.patch) k.items h.items k.recut k.recut items refl refl refl refl
-    (subst (λ p. IsItemPatch change ts (tokens.patched ts p) k.items k.recut) (sym patch) (subst (λ t. IsItemPatch change t (tokens.patched t k.patch) k.items k.recut) back k.is_recut)) in
-    let one : AreOne h.recut k.recut = same_item_patch change (edited_by change) ts h.items h.patch h.recut k.recut (record {
+    (subst (λ p. IsItemPatch change ts (tokens.patched ts p) k.items k.recut) (sym patch)
+    (subst (λ t. IsItemPatch change t (tokens.patched t k.patch) k.items k.recut) back k.is_recut)) in
+    let one : AreOne h.recut k.recut =
+    same_item_patch change (edited_by change) ts h.items h.patch h.recut k.recut (record {
       within = within;
       edited = refl;
       tokens = h.are_tokens;
@@ -71,15 +77,23 @@ one_work change old d e v w within h k =
       patch = h.is_patch;
     }) h.is_recut there in
     let stale : AreStaleItems old.known change ts (tokens.patched ts h.patch) k.recut k.stale =
-    subst (λ p. AreStaleItems old.known change ts (tokens.patched ts p) k.recut k.stale) (sym patch) (subst (λ t. AreStaleItems old.known change t (tokens.patched t k.patch) k.recut k.stale) back k.are_stale) in
-    let many : length h.recut.fresh ≡ length k.recut.fresh = sym (length-map h.recut.fresh tokens_in) ∙ ap length one.fresh ∙ length-map k.recut.fresh tokens_in in
-    let stales : h.stale ≡ k.stale = one_stale old.known change ts (tokens.patched ts h.patch) h.recut k.recut h.stale k.stale one h.are_stale stale in
-    let place : place_of h.recut ≡ place_of k.recut = λ i. record { at = one.at i; removed = one.removed i; added = many i } in
-    let changed : changed_items (place_of h.recut) h.stale ≡ changed_items (place_of k.recut) k.stale = λ i. changed_items (place i) (stales i) in
+    subst (λ p. AreStaleItems old.known change ts (tokens.patched ts p) k.recut k.stale) (sym patch)
+    (subst (λ t. AreStaleItems old.known change t (tokens.patched t k.patch) k.recut k.stale) back
+    k.are_stale) in
+    let many : length h.recut.fresh ≡ length k.recut.fresh = sym (length-map h.recut.fresh tokens_in)
+    ∙ ap length one.fresh ∙ length-map k.recut.fresh tokens_in in
+    let stales : h.stale ≡ k.stale = one_stale old.known change ts (tokens.patched ts h.patch) h.recut k.recut
+    h.stale k.stale one h.are_stale stale in
+    let place : splice_of h.recut ≡ splice_of k.recut =
+    λ i. record { at = one.at i; removed = one.removed i; added = many i } in
+    let changed : changed_items (splice_of h.recut) h.stale ≡ changed_items (splice_of k.recut) k.stale =
+    λ i. changed_items (place i) (stales i) in
     let lexed : v.lexed ≡ w.lexed = h.lexed ∙ ap (λ (p : TokenPatch). length p.fresh) patch ∙ sym k.lexed in
     let parsed : v.parsed ≡ w.parsed = h.parsed ∙ many ∙ sym k.parsed in
     let checked : v.checked ≡ w.checked = h.checked ∙ ap length stales ∙ sym k.checked in
-    let moved : v.moved ≡ w.moved = h.moved ∙ (λ i. distance old.token_seat (patch i).at ((patch i).at + (patch i).removed) + moves old.item_seat (changed i)) ∙ sym k.moved in (
+    let moved : v.moved ≡ w.moved = h.moved
+    ∙ (λ i. distance old.token_seat (patch i).at ((patch i).at + (patch i).removed)
+    + moves old.item_seat (changed i)) ∙ sym k.moved in (
       λ i. record { lexed = lexed i; parsed = parsed i; checked = checked i; moved = moved i },
       h.token_seat ∙ ap (λ (p : TokenPatch). p.at + length p.fresh) patch ∙ sym k.token_seat,
       h.item_seat ∙ ap (seat_behind old.item_seat) changed ∙ sym k.item_seat,

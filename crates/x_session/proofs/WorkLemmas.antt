@@ -1,5 +1,6 @@
 -- What work edits took.
-use Rattle.std.proofs.Common.{◌≡◌, ℕ, zero, suc, ◌+◌, ◌<◌, ◌≤◌, ◌-◌, ◌^◌, List, [], ◌∷◌, ◌++◌, Option, Some, length, map, take, drop, refl, sym, ap, subst, ◌∙◌, arith, lit≤}
+use Rattle.std.proofs.Common.{◌≡◌, ℕ, zero, suc, ◌+◌, ◌<◌, ◌≤◌, ◌-◌, ◌^◌, List, [], ◌∷◌, ◌++◌, Option, Some}
+use Rattle.std.proofs.Common.{length, map, take, drop, refl, sym, ap, subst, ◌∙◌, arith, lit≤}
 use Rattle.std.specs.Global.{Box}
 use Rattle.std.specs.Prelude.{option_and_then, slice_get, sum_by}
 use Rattle.std.specs.List as Among
@@ -32,7 +33,7 @@ use Rattle.x_compile.specs.Checking.{AreChecked}
 use Rattle.x_follow.specs.Following.{AreUsed, IsPlan, behind, edit_of}
 use Rattle.x_compile.specs.KeptView.{AreWith, entry_definitions, found_result, kept_definition}
 use Rattle.x_compile.specs.Compile.{definitions_of}
-use Rattle.x_follow.specs.Moves.{changed_items, moves, place_of, seat_behind}
+use Rattle.x_follow.specs.Moves.{changed_items, moves, splice_of, seat_behind}
 use Rattle.x_follow.specs.Planned.{numbers_of}
 use Rattle.x_session.specs.Session.{Document, LeavesText}
 use Rattle.x_compile.specs.KeptText.{IsKept, items_of}
@@ -58,23 +59,28 @@ counts_bare [] = refl
 counts_bare (e ∷ es) = ap (λ cs. e.tokens ∷ cs) (counts_bare es)
 
 -- the numbers that ascend below a bound are no more than it
-ascending_few : (low n : ℕ) (ks : List ℕ) → Ascending low ks → ((k : ℕ) → Among.IsAmong ks k → k < n) → low ≤ n → low + length ks ≤ n
+ascending_few : (low n : ℕ) (ks : List ℕ) → Ascending low ks → ((k : ℕ) → Among.IsAmong ks k → k < n)
+    → low ≤ n → low + length ks ≤ n
 ascending_few low n [] up below le = omega (arith, le)
 ascending_few low n (k ∷ ks) up below le =
     let here : k < n = below k (among_first k ks) in
     let le_k = up.0 in
-    let rest = ascending_few (suc k) n ks up.1 (λ j is. below j (among_more k j ks is)) (omega (arith, here)) in
+    let rest = ascending_few (suc k) n ks up.1 (λ j is. below j (among_more k j ks is))
+    (omega (arith, here)) in
     omega (arith, rest, le_k)
 
-some_within : {X : Type 0} (xs : List (Option X)) (k : ℕ) (x : X) → option_and_then (λ d. d) (slice_get xs k) ≡ Some x → k < length xs
+some_within : {X : Type 0} (xs : List (Option X)) (k : ℕ) (x : X)
+    → option_and_then (λ d. d) (slice_get xs k) ≡ Some x → k < length xs
 some_within [] k x is = absurd (cc)
 some_within (y ∷ xs) zero x is = omega arith
 some_within (y ∷ xs) (suc k) x is = let rest = some_within xs k x is in omega (arith, rest)
 
 -- no more items are stale than there are
-pub stale_few : (e : TextEdit) (after : List (Option Outcome)) (ks : List ℕ) → AreStale e after ks → length ks ≤ length (definitions_after e)
+pub stale_few : (e : TextEdit) (after : List (Option Outcome)) (ks : List ℕ) → AreStale e after ks
+    → length ks ≤ length (definitions_after e)
 stale_few e after ks h =
-    let few = ascending_few 0 (length (definitions_after e)) ks h.ascend (λ k is. let s = (h.each k).0 is in some_within (definitions_after e) k s.definition s.has) (omega arith) in
+    let few = ascending_few 0 (length (definitions_after e)) ks h.ascend (λ k is. let s = (h.each k).0 is in
+    some_within (definitions_after e) k s.definition s.has) (omega arith) in
     omega (arith, few)
 
 -- what was put into a list stands there
@@ -136,14 +142,26 @@ stale_items known change ts us es fs p m n v w rs ks within old new with are =
           (subst (λ e. AreStale e (map found_result rs) ks) edit_is are);
     }
 
-pub work_of : (change : Change) (before new : Document) (ts : List (Kind × ℕ)) (es : List (ItemEntry Content)) (p : TokenPatch) (ip : ItemChange Content) (w : Work) (ks : List ℕ) → AreTokens change.old ts → IsPatch change ts p
-    → IsCut (lexemes change.old ts) (counts es) → IsItemPatch change ts (tokens.patched ts p) es ip → w.lexed ≡ length p.fresh → w.parsed ≡ length ip.fresh → w.checked ≡ length ks
-    → AreStaleItems before.known change ts (tokens.patched ts p) (record { at = ip.at; removed = ip.removed; start = ip.start; fresh = map bare ip.fresh }) ks
-    → w.moved ≡ distance before.token_seat p.at (p.at + p.removed) + moves before.item_seat (changed_items (place_of ip) ks) → new.token_seat ≡ p.at + length p.fresh
-    → new.item_seat ≡ seat_behind before.item_seat (changed_items (place_of ip) ks) → IsWork change before new w
-work_of change before new ts es p ip w ks are patch cut recut lexed parsed checked stale moved seat item_seat =
-    let fresh : ItemChange (Unit {0}) = record { at = ip.at; removed = ip.removed; start = ip.start; fresh = map bare ip.fresh } in
-    let place : place_of ip ≡ place_of fresh = λ i. record { at = ip.at; removed = ip.removed; added = sym (length-map ip.fresh bare) i } in
+pub work_of : (change : Change) (before new : Document) (ts : List (Kind × ℕ)) (es : List (ItemEntry Content))
+    (p : TokenPatch) (ip : ItemChange Content) (w : Work) (ks : List ℕ) → AreTokens change.old ts
+    → IsPatch change ts p
+    → IsCut (lexemes change.old ts) (counts es) → IsItemPatch change ts (tokens.patched ts p) es ip
+    → w.lexed ≡ length p.fresh → w.parsed ≡ length ip.fresh → w.checked ≡ length ks
+    → AreStaleItems before.known change ts (tokens.patched ts p)
+    (record { at = ip.at; removed = ip.removed; start = ip.start; fresh = map bare ip.fresh }) ks
+    → w.moved ≡ distance before.token_seat p.at (p.at + p.removed) + moves before.item_seat
+    (changed_items (splice_of ip) ks)
+    → new.tokens_moved ≡ before.tokens_moved + distance before.token_seat p.at (p.at + p.removed)
+    → new.items_moved ≡ before.items_moved + moves before.item_seat (changed_items (splice_of ip) ks)
+    → new.token_seat ≡ p.at + length p.fresh
+    → new.item_seat ≡ seat_behind before.item_seat (changed_items (splice_of ip) ks)
+    → IsWork change before new w
+work_of change before new ts es p ip w ks are patch cut recut lexed parsed checked stale moved
+    tokens_moved items_moved seat item_seat =
+    let fresh : ItemChange (Unit {0}) =
+    record { at = ip.at; removed = ip.removed; start = ip.start; fresh = map bare ip.fresh } in
+    let place : splice_of ip ≡ splice_of fresh =
+    λ i. record { at = ip.at; removed = ip.removed; added = sym (length-map ip.fresh bare) i } in
     record {
       tokens = ts;
       are_tokens = are;
@@ -152,13 +170,18 @@ work_of change before new ts es p ip w ks are patch cut recut lexed parsed check
       items = map bare es;
       are_items = subst (λ cs. IsCut (lexemes change.old ts) cs) (counts_bare es) cut;
       recut = fresh;
-      is_recut = same_patch change ts (tokens.patched ts p) es (map bare es) ip fresh (counts_bare es) refl refl refl (counts_bare ip.fresh) recut;
+      is_recut = same_patch change ts (tokens.patched ts p) es (map bare es) ip fresh (counts_bare es) refl
+          refl refl (counts_bare ip.fresh) recut;
       lexed = lexed;
       parsed = parsed ∙ sym (length-map ip.fresh bare);
       stale = ks;
       are_stale = stale;
       checked = checked;
-      moved = moved ∙ ap (λ q. distance before.token_seat p.at (p.at + p.removed) + moves before.item_seat (changed_items q ks)) place;
+      moved = moved ∙ ap (λ q. distance before.token_seat p.at (p.at + p.removed)
+          + moves before.item_seat (changed_items q ks)) place;
+      tokens_moved = tokens_moved;
+      items_moved = items_moved
+          ∙ ap (λ q. before.items_moved + moves before.item_seat (changed_items q ks)) place;
       token_seat = seat;
       item_seat = item_seat ∙ ap (λ q. seat_behind before.item_seat (changed_items q ks)) place;
     }
@@ -166,16 +189,21 @@ work_of change before new ts es p ip w ks are patch cut recut lexed parsed check
 -- ---- what an edit leaves that was planned
 
 -- all that is kept of the edited text
-pub kept_edited : (known : KnownText) (change : Change) (ts : List (Kind × ℕ)) (es : List (ItemEntry Content)) (p : Plan) (text : List ℕ) (us : List (Kind × ℕ)) (fs : List (ItemEntry Content)) (faults : ℕ) (uses : Option UseTable) → IsPlan (known_names known) change ts es p
-    → text ≡ edited_by change → us ≡ tokens.patched ts p.tokens → AreOfText (counts (patched es p.items)) → AreWith (patched es p.items) (behind es p.items p.found.items) fs → faults ≡ p.faults
+pub kept_edited : (known : KnownText) (change : Change) (ts : List (Kind × ℕ)) (es : List (ItemEntry Content))
+    (p : Plan) (text : List ℕ) (us : List (Kind × ℕ)) (fs : List (ItemEntry Content)) (faults : ℕ)
+    (uses : Option UseTable) → IsPlan (known_names known) change ts es p
+    → text ≡ edited_by change → us ≡ tokens.patched ts p.tokens → AreOfText (counts (patched es p.items))
+    → AreWith (patched es p.items) (behind es p.items p.found.items) fs → faults ≡ p.faults
     → AreUsed (patched es p.items) uses → IsKept known text us fs faults uses
 kept_edited known change ts es p text us fs faults uses h edited same few with count used =
     let rs = behind es p.items p.found.items in
-    let checked : AreChecked (known_names known) (items.kept (patched es p.items)) rs p.faults = record { results = h.checked.results; rendered = h.checked.rendered; count = h.count } in
+    let checked : AreChecked (known_names known) (items.kept (patched es p.items)) rs p.faults =
+    record { results = h.checked.results; rendered = h.checked.rendered; count = h.count } in
     subst (λ n. IsKept known text us fs n uses) (sym count)
     (subst (λ l. IsKept known text l fs p.faults uses) (sym same)
     (subst (λ t. IsKept known t (tokens.patched ts p.tokens) fs p.faults uses) (sym edited)
-    (kept_is known (edited_by change) (tokens.patched ts p.tokens) (patched es p.items) rs p.faults fs uses h.patch.tokens h.parsed h.short few checked with used)))
+    (kept_is known (edited_by change) (tokens.patched ts p.tokens) (patched es p.items) rs p.faults fs uses
+    h.patch.tokens h.parsed h.short few checked with used)))
 
 most_items : MAX_TEXT + 1 ≤ 2 ^ 64 - 1
 most_items = lit≤ tt
@@ -185,15 +213,29 @@ counted_few : (now n : ℕ) → now ≡ raised 0 n → n ≤ MAX_TEXT + 1 → no
 counted_few now n is few = let most = most_items in omega (arith, is, few, most)
 
 fresh_few : {T : Type 0} (xs ys : List T) (i j : ℕ) → length ys ≤ length (splice xs i j ys)
-fresh_few xs ys i j = let a = length-append (take i xs) (ys ++ drop j xs) in let b = length-append ys (drop j xs) in omega (arith, a, b)
+fresh_few xs ys i j = let a = length-append (take i xs) (ys ++ drop j xs) in
+    let b = length-append ys (drop j xs) in omega (arith, a, b)
 
 -- the work that it took
-pub work_edited : (change : Change) (before new : Document) (ts us : List (Kind × ℕ)) (es fs : List (ItemEntry Content)) (m n : ℕ) (u v : Option UseTable) (p : Plan) (w : Work) → IsPlan (known_names before.known) change ts es p → IsKept before.known change.old ts es m u
-    → IsKept before.known (edited_by change) us fs n v → us ≡ tokens.patched ts p.tokens → AreWith (patched es p.items) (behind es p.items p.found.items) fs → IsOfText (tokens.patched ts p.tokens) → AreOfText (counts (patched es p.items))
-    → w.lexed ≡ raised 0 (length p.tokens.fresh) → w.parsed ≡ raised 0 (length p.items.fresh) → w.checked ≡ raised 0 (length p.found.items)
-    → w.moved ≡ distance before.token_seat p.tokens.at (p.tokens.at + p.tokens.removed) + moves before.item_seat (changed_items (place_of p.items) (numbers_of p.found.items))
-    → new.token_seat ≡ p.tokens.at + length p.tokens.fresh → new.item_seat ≡ seat_behind before.item_seat (changed_items (place_of p.items) (numbers_of p.found.items)) → IsWork change before new w
-work_edited change before new ts us es fs m n u v p w h old made same with few few_items lexed counted checked moved seat item_seat =
+pub work_edited : (change : Change) (before new : Document) (ts us : List (Kind × ℕ))
+    (es fs : List (ItemEntry Content)) (m n : ℕ) (u v : Option UseTable) (p : Plan) (w : Work)
+    → IsPlan (known_names before.known) change ts es p → IsKept before.known change.old ts es m u
+    → IsKept before.known (edited_by change) us fs n v → us ≡ tokens.patched ts p.tokens
+    → AreWith (patched es p.items) (behind es p.items p.found.items) fs
+    → IsOfText (tokens.patched ts p.tokens) → AreOfText (counts (patched es p.items))
+    → w.lexed ≡ raised 0 (length p.tokens.fresh) → w.parsed ≡ raised 0 (length p.items.fresh)
+    → w.checked ≡ raised 0 (length p.found.items)
+    → w.moved ≡ distance before.token_seat p.tokens.at (p.tokens.at + p.tokens.removed)
+    + moves before.item_seat (changed_items (splice_of p.items) (numbers_of p.found.items))
+    → new.tokens_moved ≡ before.tokens_moved
+    + distance before.token_seat p.tokens.at (p.tokens.at + p.tokens.removed)
+    → new.items_moved ≡ before.items_moved
+    + moves before.item_seat (changed_items (splice_of p.items) (numbers_of p.found.items))
+    → new.token_seat ≡ p.tokens.at + length p.tokens.fresh
+    → new.item_seat ≡ seat_behind before.item_seat
+    (changed_items (splice_of p.items) (numbers_of p.found.items)) → IsWork change before new w
+work_edited change before new ts us es fs m n u v p w h old made same with few few_items lexed counted checked
+    moved tokens_moved items_moved seat item_seat =
     let f = fresh_few ts p.tokens.fresh p.tokens.at (p.tokens.at + p.tokens.removed) in
     let g = fresh_few es p.items.fresh p.items.at (p.items.at + p.items.removed) in
     let a = few.few in
@@ -207,31 +249,50 @@ work_edited change before new ts us es fs m n u v p w h old made same with few f
     let long = ap length (definitions_splice es p.items) in
     let all = length-map (patched es p.items) (λ e. kept_definition e.kept) in
     let some = length-map p.found.items (λ (q : PlannedResult). q.item) in
-    let once : w.checked ≡ length p.found.items = counted_few w.checked (length p.found.items) checked (omega (arith, many, long, all, some, b, l)) in
-    work_of change before new ts es p.tokens p.items w ks old.are_tokens h.patch (cut_of (lexemes change.old ts) es old.parsed) h.recut
-    (counted_few w.lexed (length p.tokens.fresh) lexed (omega (arith, f, a))) (counted_few w.parsed (length p.items.fresh) counted (omega (arith, g, b, l))) (once ∙ sym some)
-    (subst (λ l. AreStaleItems before.known change ts l (record { at = p.items.at; removed = p.items.removed; start = p.items.start; fresh = map bare p.items.fresh }) ks) same
-    (stale_items before.known change ts us es fs p.items m n u v rs ks (omega (arith, among)) old made with stale)) moved
+    let once : w.checked ≡ length p.found.items =
+    counted_few w.checked (length p.found.items) checked (omega (arith, many, long, all, some, b, l)) in
+    work_of change before new ts es p.tokens p.items w ks old.are_tokens h.patch
+    (cut_of (lexemes change.old ts) es old.parsed) h.recut
+    (counted_few w.lexed (length p.tokens.fresh) lexed (omega (arith, f, a)))
+    (counted_few w.parsed (length p.items.fresh) counted (omega (arith, g, b, l))) (once ∙ sym some)
+    (subst (λ l. AreStaleItems before.known change ts l
+    (record {
+      at = p.items.at;
+      removed = p.items.removed;
+      start = p.items.start;
+      fresh = map bare p.items.fresh;
+    }) ks) same
+    (stale_items before.known change ts us es fs p.items m n u v rs ks (omega (arith, among)) old made with
+    stale)) moved tokens_moved items_moved
     seat item_seat
 
 -- ---- the work of one edit after another
 
-works_more : (old mid next : Document) (es : List Edit) (ws : List Work) (e : Edit) (w : Work) → AreWorks old es ws mid → LeavesText mid next (edited_by (change_of mid.text e)) → IsWork (change_of mid.text e) mid next w
+works_more : (old mid next : Document) (es : List Edit) (ws : List Work) (e : Edit) (w : Work)
+    → AreWorks old es ws mid → LeavesText mid next (edited_by (change_of mid.text e))
+    → IsWork (change_of mid.text e) mid next w
     → AreWorks old (es ++ e ∷ []) (ws ++ w ∷ []) next
-works_more old mid next [] [] e w are leaves is =
-    (next, subst (λ d. LeavesText d next (edited_by (change_of d.text e))) are leaves, subst (λ d. IsWork (change_of d.text e) d next w) are is, refl)
+works_more old mid next [] [] e w are leaves is = (
+  next,
+  subst (λ d. LeavesText d next (edited_by (change_of d.text e))) are leaves,
+  subst (λ d. IsWork (change_of d.text e) d next w) are is,
+  refl,
+)
 works_more old mid next [] (v ∷ ws) e w are leaves is = absurd are
 works_more old mid next (d ∷ es) [] e w are leaves is = absurd are
-works_more old mid next (d ∷ es) (v ∷ ws) e w are leaves is = (are.0, are.1, are.2, works_more are.0 mid next es ws e w are.3 leaves is)
+works_more old mid next (d ∷ es) (v ∷ ws) e w are leaves is =
+    (are.0, are.1, are.2, works_more are.0 mid next es ws e w are.3 leaves is)
 
 -- a count of one more, and the sum with it
-more_of : (f : Work → ℕ) (ws : List Work) (w : Work) (total next : ℕ) → total ≡ raised 0 (sum_by f ws) → next ≡ raised total (f w) → next ≡ raised 0 (sum_by f (ws ++ w ∷ []))
+more_of : (f : Work → ℕ) (ws : List Work) (w : Work) (total next : ℕ) → total ≡ raised 0 (sum_by f ws)
+    → next ≡ raised total (f w) → next ≡ raised 0 (sum_by f (ws ++ w ∷ []))
 more_of f ws w total next is more =
     let s = sum_by-append f ws (w ∷ []) in
     let one : sum_by f (w ∷ []) ≡ f w = omega arith in
     omega (arith, s, one, is, more)
 
-pub worked_none : (old : Document) (total : Work) → total ≡ record { lexed = 0; parsed = 0; checked = 0; moved = 0 } → IsWorkOfAll old [] old total
+pub worked_none : (old : Document) (total : Work)
+    → total ≡ record { lexed = 0; parsed = 0; checked = 0; moved = 0 } → IsWorkOfAll old [] old total
 worked_none old total none = record {
   works = [];
   are_works = refl;
@@ -241,8 +302,15 @@ worked_none old total none = record {
   moved = ap (λ w. w.moved) none;
 }
 
-pub worked_more : (old mid next : Document) (es : List Edit) (e : Edit) (total new w : Work) → IsWorkOfAll old es mid total → LeavesText mid next (edited_by (change_of mid.text e)) → IsWork (change_of mid.text e) mid next w
-    → new ≡ record { lexed = raised total.lexed w.lexed; parsed = raised total.parsed w.parsed; checked = raised total.checked w.checked; moved = raised total.moved w.moved } → IsWorkOfAll old (es ++ e ∷ []) next new
+pub worked_more : (old mid next : Document) (es : List Edit) (e : Edit) (total new w : Work)
+    → IsWorkOfAll old es mid total → LeavesText mid next (edited_by (change_of mid.text e))
+    → IsWork (change_of mid.text e) mid next w
+    → new ≡ record {
+      lexed = raised total.lexed w.lexed;
+      parsed = raised total.parsed w.parsed;
+      checked = raised total.checked w.checked;
+      moved = raised total.moved w.moved;
+    } → IsWorkOfAll old (es ++ e ∷ []) next new
 worked_more old mid next es e total new w h leaves is more = record {
   works = h.works ++ w ∷ [];
   are_works = works_more old mid next es h.works e w h.are_works leaves is;

@@ -13,7 +13,8 @@ pub record IsWorking (start : Stream) (pen : Inked) (now : Stream) (tap tap' : B
   pub works : WorksOn start.failed now.failed
   pub tap_is : tap' ≡ tap
 
-pub works_at_start : (start : Stream) (pen : Inked) (tap : Bool) → pen ≡ record { pending = []; written = 0; stopped = false } → IsWorking start pen start tap tap
+pub works_at_start : (start : Stream) (pen : Inked) (tap : Bool)
+    → pen ≡ record { pending = []; written = 0; stopped = false } → IsWorking start pen start tap tap
 works_at_start start pen tap is = record {
   text = [];
   writes = subst (λ (p : Inked). Writes start [] p start) (sym is) (writes_none start);
@@ -23,12 +24,17 @@ works_at_start start pen tap is = record {
 }
 
 -- what was added and passed on
-passed : (start : Stream) (p q r : Inked) (now now' now'' : Stream) (tap tap' : Bool) → (h : IsWorking start p now tap tap')
-    → (added : (told : List ℕ) × Adds p now q now' told) → Adds q now' r now'' [] → Writes start (h.text ++ added.0 ++ []) r now''
-passed start p q r now now' now'' tap tap' h added flushed = flushed.goes_on start (h.text ++ added.0) (added.1.goes_on start h.text h.writes)
+passed : (start : Stream) (p q r : Inked) (now now' now'' : Stream) (tap tap' : Bool)
+    → (h : IsWorking start p now tap tap')
+    → (added : (told : List ℕ) × Adds p now q now' told) → Adds q now' r now'' []
+    → Writes start (h.text ++ added.0 ++ []) r now''
+passed start p q r now now' now'' tap tap' h added flushed =
+    flushed.goes_on start (h.text ++ added.0) (added.1.goes_on start h.text h.writes)
 
-pub works_on : (start : Stream) (p q r : Inked) (now now' now'' : Stream) (tap tap' tap'' : Bool) → (h : IsWorking start p now tap tap')
-    → ((told : List ℕ) × Adds p now q now' told) → Adds q now' r now'' [] → r.stopped ≡ false → (r.stopped ≡ false → now''.failed ≡ false) → tap'' ≡ tap' → IsWorking start r now'' tap tap''
+pub works_on : (start : Stream) (p q r : Inked) (now now' now'' : Stream) (tap tap' tap'' : Bool)
+    → (h : IsWorking start p now tap tap')
+    → ((told : List ℕ) × Adds p now q now' told) → Adds q now' r now'' [] → r.stopped ≡ false
+    → (r.stopped ≡ false → now''.failed ≡ false) → tap'' ≡ tap' → IsWorking start r now'' tap tap''
 works_on start p q r now now' now'' tap tap' tap'' h added flushed goes works same = record {
   text = h.text ++ added.0 ++ [];
   writes = passed start p q r now now' now'' tap tap' h added flushed;
@@ -37,7 +43,10 @@ works_on start p q r now now' now'' tap tap' tap'' h added flushed goes works sa
   tap_is = same ∙ h.tap_is;
 }
 
-pub fails_at_stop : (start : Stream) (p q r : Inked) (now now' now'' : Stream) (tap tap' : Bool) → (h : IsWorking start p now tap tap')
-    → ((told : List ℕ) × Adds p now q now' told) → Adds q now' r now'' [] → r.stopped ≡ true → now''.failed ≡ true
+pub fails_at_stop : (start : Stream) (p q r : Inked) (now now' now'' : Stream) (tap tap' : Bool)
+    → (h : IsWorking start p now tap tap')
+    → ((told : List ℕ) × Adds p now q now' told) → Adds q now' r now'' [] → r.stopped ≡ true
+    → now''.failed ≡ true
 fails_at_stop start p q r now now' now'' tap tap' h added flushed stops =
-    (front_written r start now'' (h.text ++ added.0 ++ []) stops (passed start p q r now now' now'' tap tap' h added flushed)).failed
+    (front_written r start now'' (h.text ++ added.0 ++ []) stops
+    (passed start p q r now now' now'' tap tap' h added flushed)).failed

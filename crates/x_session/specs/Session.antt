@@ -1,5 +1,5 @@
 -- What a session is a view of: the text and what is known before it, the base of the names in what is
--- generated of it, and the seats of its tokens and items.
+-- generated of it, and of its lists of tokens and items the seats and how many entries they have moved.
 use Rattle.std.specs.Prelude.{◌≡◌, ℕ, List, [], ◌∷◌, ◌++◌, length, Err}
 use Rattle.x_text.specs.Edits.{change_of, edited_by, FitsText, Judges}
 use Rattle.x_text.specs.declared.text.edit.Edit.{Edit}
@@ -9,25 +9,22 @@ use Rattle.x_compile.specs.Compile.{Item, IsCompilation}
 use Rattle.x_compile.specs.Known.{KnownText}
 use Rattle.x_session.specs.declared.session.work.Work.{Work}
 
--- A seat is the index in a list behind the entries that were put in last.
+-- A seat is the index in a list behind the entries that were put in last. A list counts each kept entry that
+-- it moves.
 pub record Document : Type 0 where
   pub base : List ℕ
   pub known : KnownText
   pub text : List ℕ
   pub token_seat : ℕ
   pub item_seat : ℕ
+  pub tokens_moved : ℕ
+  pub items_moved : ℕ
 
 -- the session has this text now, and the base that it had, and what was known before its text still is
 pub record LeavesText (old new : Document) (text : List ℕ) : Type 0 where
   pub text_is : new.text ≡ text
   pub base_is : new.base ≡ old.base
   pub known_is : new.known ≡ old.known
-
--- the session is one of this base and this text, before which this is known
-pub record IsOpenOf (session : Document) (base : List ℕ) (known : KnownText) (text : List ℕ) : Type 0 where
-  pub base_is : session.base ≡ base
-  pub known_is : session.known ≡ known
-  pub text_is : session.text ≡ text
 
 -- this holds of what compiling the text from scratch gives, where this is known before it
 abbrev pub Compiles : KnownText → List ℕ → (List Item → Type 0) → Type 0

@@ -17,7 +17,7 @@ use Rattle.x_recheck.specs.Editing.{TextEdit, definitions_after}
 use Rattle.x_recheck.specs.Staleness.{AreStale}
 use Rattle.x_compile.specs.Compile.{Item, IsCompilation, definitions_of}
 use Rattle.x_compile.specs.Known.{KnownText, known_names}
-use Rattle.x_follow.specs.Moves.{changed_items, moves, place_of, seat_behind}
+use Rattle.x_follow.specs.Moves.{changed_items, moves, splice_of, seat_behind}
 use Rattle.x_session.specs.Session.{Document, LeavesText}
 use Rattle.x_session.specs.declared.session.work.Work.{Work}
 
@@ -28,7 +28,7 @@ definitions_edit known olds news recut = record {
   known = known_names known;
   old = definitions_of olds;
   outcomes = map (λ i. i.result) olds;
-  place = place_of recut;
+  place = splice_of recut;
   put = take (length recut.fresh) (drop recut.at (definitions_of news));
 }
 
@@ -46,9 +46,10 @@ pub record AreStaleItems (known : KnownText) (change : Change) (ts us : List (Ki
   pub are : AreStale (definitions_edit known olds news recut) (map (λ i. i.result) news) stale
 
 -- The change took this work: as many tokens were lexed as are fresh, as many items parsed as are recut, and
--- as many checked as are stale. As many entries moved as lie between the tokens' seat and the tokens that go,
--- and as move where the changed items are put in place from the first to the last. The tokens' seat is behind
--- the fresh ones then, and the items' seat behind the last changed one.
+-- as many checked as are stale. As many tokens moved as lie between the tokens' seat and the tokens that go,
+-- and as many items as move where the changed ones are put in place from the first to the last; each list has
+-- counted its own. The tokens' seat is behind the fresh ones then, and the items' seat behind the last
+-- changed one.
 pub record IsWork (change : Change) (old new : Document) (w : Work) : Type 0 where
   pub tokens : List (Kind × ℕ)
   pub are_tokens : AreTokens change.old tokens
@@ -64,9 +65,13 @@ pub record IsWork (change : Change) (old new : Document) (w : Work) : Type 0 whe
   pub are_stale : AreStaleItems old.known change tokens (patched tokens patch) recut stale
   pub checked : w.checked ≡ length stale
   pub moved : w.moved ≡ distance old.token_seat patch.at (patch.at + patch.removed)
-      + moves old.item_seat (changed_items (place_of recut) stale)
+      + moves old.item_seat (changed_items (splice_of recut) stale)
+  pub tokens_moved : new.tokens_moved ≡ old.tokens_moved
+      + distance old.token_seat patch.at (patch.at + patch.removed)
+  pub items_moved : new.items_moved ≡ old.items_moved
+      + moves old.item_seat (changed_items (splice_of recut) stale)
   pub token_seat : new.token_seat ≡ patch.at + length patch.fresh
-  pub item_seat : new.item_seat ≡ seat_behind old.item_seat (changed_items (place_of recut) stale)
+  pub item_seat : new.item_seat ≡ seat_behind old.item_seat (changed_items (splice_of recut) stale)
 
 -- the edits took this work, one after another
 abbrev pub AreWorks : Document → List Edit → List Work → Document → Type 0

@@ -77,6 +77,8 @@ impl Model for Session {
       text = s.texts.text;
       token_seat = s.tokens.seat;
       item_seat = s.items.entries.seat;
+      tokens_moved = s.tokens.moved;
+      items_moved = s.items.entries.moved;
     } };
 
     ghost invariant = { λ s.

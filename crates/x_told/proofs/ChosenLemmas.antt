@@ -1,6 +1,8 @@
 -- Which faults are chosen.
-use Rattle.std.proofs.Common.{◌≡◌, ℕ, zero, suc, ◌+◌, ◌-◌, ◌<◌, ◌≤◌, arith, Bool, true, false, cond, List, [], ◌∷◌}
-use Rattle.std.proofs.Common.{◌++◌, append-nil, length, length-append, drop, get_or, append_assoc, refl, sym, ap, ◌∙◌}
+use Rattle.std.proofs.Common.{◌≡◌, ℕ, zero, suc, ◌+◌, ◌-◌, ◌<◌, ◌≤◌, arith, Bool, true, false, cond, List, []}
+use Rattle.std.proofs.Common.{◌∷◌}
+use Rattle.std.proofs.Common.{◌++◌, append-nil, length, length-append, drop, get_or, append_assoc, refl, sym}
+use Rattle.std.proofs.Common.{ap, ◌∙◌}
 use Rattle.std.proofs.lemmas.List.{drop_more}
 use Rattle.std.proofs.lemmas.List.Elements.{filter-append}
 use Rattle.std.specs.Prelude.{not}
@@ -17,7 +19,8 @@ module _ {X : Type 0} (t : X → Bool) where
       let rest = filter (λ y. not (t y)) xs in ap (λ b. cond (not b) (x ∷ rest) rest) is
   passed (suc n) x xs is = ap (λ b. x ∷ with_first (cond b n (suc n)) t xs) is
 
-  pub taken : (n : ℕ) (x : X) (xs : List X) → t x ≡ true → with_first (suc n) t (x ∷ xs) ≡ x ∷ with_first n t xs
+  pub taken : (n : ℕ) (x : X) (xs : List X) → t x ≡ true
+      → with_first (suc n) t (x ∷ xs) ≡ x ∷ with_first n t xs
   taken n x xs is = ap (λ b. x ∷ with_first (cond b n (suc n)) t xs) is
 
   pub dropped : (x : X) (xs : List X) → t x ≡ true → with_first zero t (x ∷ xs) ≡ with_first zero t xs
@@ -123,7 +126,8 @@ all_chosen most told few =
     ∙ all_there is_consequence told room (omega (arith, parts, few)))
 
 -- those that are shown, and those that are left, are all
-pub none_lost : (most : ℕ) (told : List FaultPlace) → length (chosen most told) + left_out most told ≡ length told
+pub none_lost : (most : ℕ) (told : List FaultPlace)
+    → length (chosen most told) + left_out most told ≡ length told
 none_lost most told =
     let parts = both told in
     let errors = counted is_error told most in
@@ -194,7 +198,8 @@ enough_errors most ps rest few =
     let shown = with_first most is_error ps in
     let behind = filter is_consequence rest in
     ap (λ n. with_first n is_consequence shown) here
-    ∙ sym (append-nil (filter is_error shown)) ∙ ap (λ l. filter is_error shown ++ l) (sym (none_of_both rest))
+    ∙ sym (append-nil (filter is_error shown))
+    ∙ ap (λ l. filter is_error shown ++ l) (sym (none_of_both rest))
     ∙ sym (filter-append is_error shown behind)
     ∙ ap (filter is_error) (sym (enough_in ps most few rest))
     ∙ ap (λ n. with_first n is_consequence (with_first most is_error (ps ++ rest))) (sym there)
@@ -209,7 +214,8 @@ room_behind most ps p room left b is room_is left_is =
     by b is left_is long
   where
     by : (b : Bool) → b ≡ is_of_faulty p.code → left ≡ cond b room (room - 1)
-        → length (filter is_error (ps ++ p ∷ [])) ≡ length (filter is_error ps) + length (filter is_error (p ∷ []))
+        → length (filter is_error (ps ++ p ∷ []))
+        ≡ length (filter is_error ps) + length (filter is_error (p ∷ []))
         → left ≡ most - length (filter is_error (ps ++ p ∷ []))
     by true e l long =
         let one = ap (λ c. length (cond (not c) (p ∷ []) [])) (sym e) in omega (arith, one, long, l, room_is)
@@ -223,10 +229,12 @@ abbrev pub shown_in : (errors room : ℕ) → List FaultPlace → List FaultPlac
 shown_in errors room ps = with_first room is_consequence (with_first errors is_error ps)
 
 -- a fault more is shown, and less room is left for others
-goes_in : (told list new : List FaultPlace) (i : ℕ) (none : FaultPlace) (f g : List FaultPlace → List FaultPlace)
+goes_in : (told list new : List FaultPlace) (i : ℕ) (none : FaultPlace)
+    (f g : List FaultPlace → List FaultPlace)
     (all : List FaultPlace) → i < length told
     → f (get_or told i none ∷ drop (i + 1) told) ≡ get_or told i none ∷ g (drop (i + 1) told)
-    → new ≡ list ++ get_or told i none ∷ [] → list ++ f (drop i told) ≡ all → new ++ g (drop (i + 1) told) ≡ all
+    → new ≡ list ++ get_or told i none ∷ [] → list ++ f (drop i told) ≡ all
+    → new ++ g (drop (i + 1) told) ≡ all
 goes_in told list new i none f g all lt is new_is had =
     let p = get_or told i none in
     let rest = g (drop (i + 1) told) in
@@ -235,7 +243,8 @@ goes_in told list new i none f g all lt is new_is had =
 
 pub error_shown : (told list new : List FaultPlace) (i : ℕ) (none : FaultPlace) (errors room left : ℕ)
     (all : List FaultPlace) → i < length told → is_of_faulty (get_or told i none).code ≡ false
-    → suc left ≡ errors → new ≡ list ++ get_or told i none ∷ [] → list ++ shown_in errors room (drop i told) ≡ all
+    → suc left ≡ errors → new ≡ list ++ get_or told i none ∷ []
+    → list ++ shown_in errors room (drop i told) ≡ all
     → new ++ shown_in left room (drop (i + 1) told) ≡ all
 error_shown told list new i none errors room left all lt is less new_is had =
     let p = get_or told i none in
@@ -247,7 +256,8 @@ error_shown told list new i none errors room left all lt is less new_is had =
 
 pub consequence_shown : (told list new : List FaultPlace) (i : ℕ) (none : FaultPlace) (errors room left : ℕ)
     (all : List FaultPlace) → i < length told → is_of_faulty (get_or told i none).code ≡ true
-    → suc left ≡ room → new ≡ list ++ get_or told i none ∷ [] → list ++ shown_in errors room (drop i told) ≡ all
+    → suc left ≡ room → new ≡ list ++ get_or told i none ∷ []
+    → list ++ shown_in errors room (drop i told) ≡ all
     → new ++ shown_in errors left (drop (i + 1) told) ≡ all
 consequence_shown told list new i none errors room left all lt is less new_is had =
     let p = get_or told i none in
@@ -260,7 +270,8 @@ consequence_shown told list new i none errors room left all lt is less new_is ha
 -- one that is not shown
 pub error_hidden : (told list : List FaultPlace) (i : ℕ) (none : FaultPlace) (errors room : ℕ)
     (all : List FaultPlace) → i < length told → is_of_faulty (get_or told i none).code ≡ false → errors ≡ 0
-    → list ++ shown_in errors room (drop i told) ≡ all → list ++ shown_in errors room (drop (i + 1) told) ≡ all
+    → list ++ shown_in errors room (drop i told) ≡ all
+    → list ++ shown_in errors room (drop (i + 1) told) ≡ all
 error_hidden told list i none errors room all lt is full had =
     let p = get_or told i none in
     let rest = drop (i + 1) told in
@@ -270,11 +281,13 @@ error_hidden told list i none errors room all lt is full had =
 
 pub consequence_hidden : (told list : List FaultPlace) (i : ℕ) (none : FaultPlace) (errors room : ℕ)
     (all : List FaultPlace) → i < length told → is_of_faulty (get_or told i none).code ≡ true → room ≡ 0
-    → list ++ shown_in errors room (drop i told) ≡ all → list ++ shown_in errors room (drop (i + 1) told) ≡ all
+    → list ++ shown_in errors room (drop i told) ≡ all
+    → list ++ shown_in errors room (drop (i + 1) told) ≡ all
 consequence_hidden told list i none errors room all lt is full had =
     let p = get_or told i none in
     let rest = drop (i + 1) told in
     ap (λ n. list ++ shown_in errors n rest) full
-    ∙ ap (λ l. list ++ l) (sym (ap (with_first zero is_consequence) (passed is_error errors p rest (ap not is))
+    ∙ ap (λ l. list ++ l)
+    (sym (ap (with_first zero is_consequence) (passed is_error errors p rest (ap not is))
     ∙ dropped is_consequence p (with_first errors is_error rest) is))
     ∙ (λ j. list ++ shown_in errors (sym full j) (sym (drop_more told i none lt) j)) ∙ had

@@ -1,5 +1,6 @@
 -- What is kept of the faults of a text while going over them by its names.
-use Rattle.std.proofs.Common.{◌≡◌, ℕ, ◌<◌, Bool, true, false, cond, ltb, List, [], ◌∷◌, ◌++◌, length, get_or, set}
+use Rattle.std.proofs.Common.{◌≡◌, ℕ, ◌<◌, Bool, true, false, cond, ltb, List, [], ◌∷◌, ◌++◌, length, get_or}
+use Rattle.std.proofs.Common.{set}
 use Rattle.std.proofs.Common.{zero, suc, replicate, refl, sym, ap, subst, ◌∙◌, append_assoc, append-nil}
 use Rattle.std.proofs.lemmas.List.{get_or_default, length-replicate, length-set}
 use Rattle.std.proofs.lemmas.List.Elements.{filter-append}
@@ -71,7 +72,8 @@ heard_none known text turns names left voices told count named counted listed vo
 -- whether the next fault is told, by what is kept
 abbrev pub IsToldNext : (text : List ℕ) → List Turn → List (List ℕ × Declarer) → List Voice → FaultPlace
     → (end : ℕ) → Bool → Type 0
-IsToldNext text turns names voices p end b = (shown : List ℕ) → SayBranchesOf turns shown → (items : List Item)
+IsToldNext text turns names voices p end b = (shown : List ℕ) → SayBranchesOf turns shown
+    → (items : List Item)
     → ((name : List ℕ) → first_in names name ≡ first_declarer (definitions_of items) name)
     → slice_range text p.start end ≡ word_from (tokens_of items) p.start
     → b ≡ is_told_where shown items (λ item. ltb item p.item && is_silent_voice (voice_at voices item)) p
@@ -81,7 +83,8 @@ pub next_within : {known : KnownText} {text : List ℕ} {turns : List Turn} {nam
     (rest : List FaultPlace) → left ≡ p ∷ rest → IsHeard known text turns names left voices told
     → p.item < length voices
 next_within {known} {text} left voices told p rest is h =
-    let next = next_place text h.tokens h.items h.done p rest h.compiled (ap (λ l. h.done ++ l) (sym is) ∙ h.parts) in
+    let next = next_place text h.tokens h.items h.done p rest h.compiled
+    (ap (λ l. h.done ++ l) (sym is) ∙ h.parts) in
     subst (λ n. p.item < n) (sym h.long) next.within
 
 -- what is kept of an item then, where this was
@@ -113,14 +116,16 @@ heard_next text turns names left rest voices new told more p end b h is ends tel
     let next = next_place text h.tokens h.items h.done p rest h.compiled parts in
     let so : (shown : List ℕ) → SayBranchesOf turns shown → is_told shown h.items p ≡ b =
     λ shown say. sym (tells shown say h.items h.named (next.word end ends)
-    ∙ ap (λ s. is_told_where shown h.items s p) (λ i j. silent_by shown h.items h.done (p ∷ rest) voices p.item
+    ∙ ap (λ s. is_told_where shown h.items s p)
+    (λ i j. silent_by shown h.items h.done (p ∷ rest) voices p.item
     parts next.from (h.heard shown say) j i)) in
     record {
       tokens = h.tokens;
       items = h.items;
       compiled = h.compiled;
       named = h.named;
-      long = ap (λ l. length l) new_is ∙ length-set voices p.item (heard_with b (voice_at voices p.item)) ∙ h.long;
+      long = ap (λ l. length l) new_is ∙ length-set voices p.item (heard_with b (voice_at voices p.item))
+          ∙ h.long;
       done = h.done ++ p ∷ [];
       parts = append_assoc h.done (p ∷ []) rest ∙ parts;
       heard = λ shown say. heard_more (is_told shown h.items) h.done voices new p b (so shown say)

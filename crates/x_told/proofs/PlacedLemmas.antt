@@ -1,5 +1,6 @@
 -- Where the faults of a text stand: in which order, in which items, and at which tokens.
-use Rattle.std.proofs.Common.{◌≡◌, ℕ, zero, suc, ◌+◌, ◌-◌, ◌<◌, ◌≤◌, Bool, true, false, cond, List, [], ◌∷◌, ◌++◌}
+use Rattle.std.proofs.Common.{◌≡◌, ℕ, zero, suc, ◌+◌, ◌-◌, ◌<◌, ◌≤◌, Bool, true, false, cond, List, [], ◌∷◌}
+use Rattle.std.proofs.Common.{◌++◌}
 use Rattle.std.proofs.Common.{length, take, drop, map, refl, sym, ap, subst, ◌∙◌, arith, eq-eqb, length-drop}
 use Rattle.std.proofs.Common.{◌⊎◌, inl, inr}
 use Rattle.std.proofs.lemmas.Bool.{eqb-true}
@@ -11,7 +12,8 @@ use Rattle.x_lex.specs.declared.kind.Kind.{Kind}
 use Rattle.x_lex.specs.Places.{Follow, IsLexeme, IsTokenAt, Lexeme, TilesByPlace, is_line_start}
 use Rattle.x_lex.specs.Word.{IsWord}
 use Rattle.x_lex.proofs.PlaceLemmas.{by_place}
-use Rattle.x_compile.specs.Compile.{Item, IsCompilation, item_places, place_in, places_from, places_of, start_of}
+use Rattle.x_compile.specs.Compile.{Item, IsCompilation, item_places, place_in, places_from, places_of}
+use Rattle.x_compile.specs.Compile.{start_of}
 use Rattle.x_compile.specs.Compile.{token_faults, tokens_of}
 use Rattle.x_compile.specs.Known.{KnownText}
 use Rattle.x_compile.specs.declared.fault.FaultPlace.{FaultPlace}
@@ -87,7 +89,8 @@ order_left : (done left : List FaultPlace) → Ascend (done ++ left) → Ascend 
 order_left [] left order = order
 order_left (p ∷ done) left order = order_left done left order.1
 
-all_within : (n k : ℕ) (items : List Item) → n ≡ k + length items → Each (λ p. p.item < n) (places_from k items)
+all_within : (n k : ℕ) (items : List Item) → n ≡ k + length items
+    → Each (λ p. p.item < n) (places_from k items)
 all_within n k [] is = tt
 all_within n k (i ∷ items) is =
     each_append (λ p. p.item < n) (item_places k i) (places_from (suc k) items)
@@ -143,10 +146,12 @@ all_start_here k ts others (f ∷ fs) =
 all_start : (k : ℕ) (items : List Item) → Each (λ p. IsStart (tokens_of items) p.start) (places_from k items)
 all_start k [] = tt
 all_start k (i ∷ items) =
-    each_append (λ p. IsStart (i.tokens ++ tokens_of items) p.start) (item_places k i) (places_from (suc k) items)
+    each_append (λ p. IsStart (i.tokens ++ tokens_of items) p.start) (item_places k i)
+    (places_from (suc k) items)
     (all_start_here k i.tokens (tokens_of items) (token_faults i))
     (each_so (λ p. IsStart (tokens_of items) p.start) (λ p. IsStart (i.tokens ++ tokens_of items) p.start)
-    (λ p h. behind i.tokens (tokens_of items) p.start h) (places_from (suc k) items) (all_start (suc k) items))
+    (λ p h. behind i.tokens (tokens_of items) p.start h) (places_from (suc k) items)
+    (all_start (suc k) items))
 
 -- ---- their words
 
@@ -182,7 +187,8 @@ same_end text k from to start end here e (inr past) =
 
 -- the word of this token, or of one of the others
 word_next : (text : List ℕ) (t : Lexeme) (ts : List Lexeme) (start end : ℕ) → IsLexeme text t
-    → IsEndOfToken text start end → (has_start ts start ≡ true → word_from ts start ≡ slice_range text start end)
+    → IsEndOfToken text start end
+    → (has_start ts start ≡ true → word_from ts start ≡ slice_range text start end)
     → (b : Bool) → (t.start == start) ≡ b → (b || has_start ts start) ≡ true
     → cond b t.text (word_from ts start) ≡ slice_range text start end
 word_next text t ts start end here ends others true e has =
@@ -192,11 +198,13 @@ word_next text t ts start end here ends others true e has =
 word_next text t ts start end here ends others false e has = others has
 
 word_there : (text : List ℕ) (ts : List Lexeme) (start end : ℕ) → All (IsLexeme text) ts
-    → has_start ts start ≡ true → IsEndOfToken text start end → word_from ts start ≡ slice_range text start end
+    → has_start ts start ≡ true → IsEndOfToken text start end
+    → word_from ts start ≡ slice_range text start end
 word_there text [] start end each has ends = absurd (cc)
 word_there text (t ∷ ts) start end each has ends =
     word_next text t ts start end (All-head (IsLexeme text) t ts each) ends
-    (λ h. word_there text ts start end (All-tail (IsLexeme text) t ts each) h ends) (t.start == start) refl has
+    (λ h. word_there text ts start end (All-tail (IsLexeme text) t ts each) h ends)
+    (t.start == start) refl has
 
 no_word : (text : List ℕ) (start end : ℕ) → length text ≡ 0 → IsEndOfToken text start end
     → slice_range text start end ≡ []
@@ -237,9 +245,11 @@ pub next_place : {known : KnownText} (text : List ℕ) (tokens : List (Kind × �
 next_place text tokens items done p rest compiled parts =
     let tiles : TilesByPlace text (tokens_of items) =
     subst (TilesByPlace text) (sym compiled.are_items.all) (by_place text tokens compiled.are_tokens) in
-    let order : Ascend (p ∷ rest) = order_left done (p ∷ rest) (subst Ascend (sym parts) (in_order 0 items)) in
+    let order : Ascend (p ∷ rest) =
+    order_left done (p ∷ rest) (subst Ascend (sym parts) (in_order 0 items)) in
     let within = each_left (λ q. q.item < length items) done (p ∷ rest)
-    (subst (Each (λ q. q.item < length items)) (sym parts) (all_within (length items) 0 items (omega arith))) in
+    (subst (Each (λ q. q.item < length items)) (sym parts)
+    (all_within (length items) 0 items (omega arith))) in
     let start = each_left (λ q. IsStart (tokens_of items) q.start) done (p ∷ rest)
     (subst (Each (λ q. IsStart (tokens_of items) q.start)) (sym parts) (all_start 0 items)) in
     record {

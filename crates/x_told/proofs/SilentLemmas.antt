@@ -13,7 +13,8 @@ use Rattle.x_names.specs.Declarers.{first_declarer}
 use Rattle.x_names.specs.declared.names.Declarer.{Declarer}
 use Rattle.x_compile.specs.Compile.{Item, definitions_of, places_of, tokens_of}
 use Rattle.x_compile.specs.declared.fault.FaultPlace.{FaultPlace}
-use Rattle.x_told.specs.Telling.{follows_from, has_fault, is_of_branch, is_of_faulty, is_silent, is_told, is_told_where}
+use Rattle.x_told.specs.Telling.{follows_from, has_fault, is_of_branch, is_of_faulty, is_silent, is_told}
+use Rattle.x_told.specs.Telling.{is_told_where}
 use Rattle.x_told.specs.Telling.{silent_before, word_from}
 use Rattle.x_told.specs.Voices.{heard_in, heard_with, is_silent_voice, voice_at, voice_of}
 use Rattle.x_told.specs.declared.telling.Voice.{Voice}
@@ -57,7 +58,8 @@ follows_none items silent h p =
 
 -- no item is silent where none before is
 silent_step : (shown : List ℕ) (items : List Item) → list_any (is_of_branch shown) (places_of items) ≡ false
-    → (n j : ℕ) → ((j : ℕ) → silent_before shown items n j ≡ false) → silent_before shown items (suc n) j ≡ false
+    → (n j : ℕ) → ((j : ℕ) → silent_before shown items n j ≡ false)
+    → silent_before shown items (suc n) j ≡ false
 silent_step shown items none n j before = by (j == n)
   where
     untold : (p : FaultPlace) → is_of_branch shown p ≡ false
@@ -66,7 +68,8 @@ silent_step shown items none n j before = by (j == n)
         (λ i. p.item == n && not (not (e i || follows_none items (silent_before shown items n) before p i)))
         ∙ and_no (p.item == n)
 
-    no_fault : has_fault items (λ p. not (is_told_where shown items (silent_before shown items n) p)) n ≡ false
+    no_fault : has_fault items (λ p. not (is_told_where shown items (silent_before shown items n) p)) n
+        ≡ false
     no_fault = finds_none (is_of_branch shown)
         (λ p. p.item == n && not (is_told_where shown items (silent_before shown items n) p)) untold
         (places_of items) none
@@ -118,7 +121,8 @@ all_free shown items (inr none) = none_of_faulty shown items none
 -- ---- which items are silent
 
 -- a test of the faults of an item is that of each fault of the item
-scoped : (j : ℕ) (f g : FaultPlace → Bool) → ((p : FaultPlace) → p.item ≡ j → f p ≡ g p) → (ps : List FaultPlace)
+scoped : (j : ℕ) (f g : FaultPlace → Bool) → ((p : FaultPlace) → p.item ≡ j → f p ≡ g p)
+    → (ps : List FaultPlace)
     → list_any (λ p. p.item == j && f p) ps ≡ list_any (λ p. p.item == j && g p) ps
 scoped j f g h [] = refl
 scoped j f g h (p ∷ ps) =
@@ -212,7 +216,8 @@ heard_silent shown items done left n j parts from lt =
     ∙ (λ i. whole (λ p. not (told p)) i && not (whole told i))
 
 -- what is kept of each item tells which items before that of the next fault are silent
-pub silent_by : (shown : List ℕ) (items : List Item) (done left : List FaultPlace) (voices : List Voice) (n : ℕ)
+pub silent_by : (shown : List ℕ) (items : List Item) (done left : List FaultPlace)
+    (voices : List Voice) (n : ℕ)
     → done ++ left ≡ places_of items → AreFrom n left
     → ((j : ℕ) → voice_at voices j ≡ heard_in (is_told shown items) done j) → (j : ℕ)
     → (ltb j n && is_silent_voice (voice_at voices j)) ≡ silent_before shown items n j
@@ -227,7 +232,8 @@ silent_by shown items done left voices n parts from heard j =
 
 -- ---- a fault more
 
-voice_here : (b t u : Bool) → heard_with b (voice_of t u) ≡ voice_of (t || (b || false)) (u || (not b || false))
+voice_here : (b t u : Bool)
+    → heard_with b (voice_of t u) ≡ voice_of (t || (b || false)) (u || (not b || false))
 voice_here true true true = refl
 voice_here true true false = refl
 voice_here true false true = refl
@@ -237,7 +243,8 @@ voice_here false true false = refl
 voice_here false false true = refl
 voice_here false false false = refl
 
-pub heard_more : (told : FaultPlace → Bool) (done : List FaultPlace) (voices new : List Voice) (p : FaultPlace)
+pub heard_more : (told : FaultPlace → Bool) (done : List FaultPlace) (voices new : List Voice)
+    (p : FaultPlace)
     (b : Bool) → told p ≡ b → p.item < length voices
     → ((j : ℕ) → voice_at voices j ≡ heard_in told done j)
     → new ≡ set voices p.item (heard_with b (voice_at voices p.item))
@@ -252,7 +259,8 @@ heard_more told done voices new p b is lt heard new_is j =
     of_untold = list_any (λ (q : FaultPlace). q.item == j && not (told q)) done
 
     more : heard_in told (done ++ p ∷ []) j
-        ≡ voice_of (of_told || ((eqb p.item j && b) || false)) (of_untold || ((eqb p.item j && not b) || false))
+        ≡ voice_of (of_told || ((eqb p.item j && b) || false))
+        (of_untold || ((eqb p.item j && not b) || false))
     more =
         (λ i. voice_of (list_any-append (λ (q : FaultPlace). q.item == j && told q) done (p ∷ []) i)
         (list_any-append (λ (q : FaultPlace). q.item == j && not (told q)) done (p ∷ []) i))

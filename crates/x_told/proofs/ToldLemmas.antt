@@ -49,7 +49,8 @@ pub all_are_free : (shown : List ℕ) → ((place : ℕ) → in_later_branch sho
     → (ps : List FaultPlace) → filter (is_free shown) ps ≡ ps
 all_are_free shown none [] = refl
 all_are_free shown none (p ∷ ps) =
-    ap (λ b. cond (not b) (p ∷ filter (is_free shown) ps) (filter (is_free shown) ps)) (of_no_branch shown none p)
+    ap (λ b. cond (not b) (p ∷ filter (is_free shown) ps) (filter (is_free shown) ps))
+    (of_no_branch shown none p)
     ∙ ap (λ l. p ∷ l) (all_are_free shown none ps)
 
 -- one fault more of which it is asked whether it is told

@@ -35,7 +35,8 @@ pub among_parts : {X : Type 0} (xs ys : List X) (y : X) → IsAmong (xs ++ ys) y
 among_parts [] ys y h = inr h
 among_parts (x ∷ xs) ys y h = by (among_cases x y (xs ++ ys) h) (λ k. among_parts xs ys y k)
   where
-    by : (y ≡ x) ⊎ IsAmong (xs ++ ys) y → (IsAmong (xs ++ ys) y → IsAmong xs y ⊎ IsAmong ys y) → IsAmong (x ∷ xs) y ⊎ IsAmong ys y
+    by : (y ≡ x) ⊎ IsAmong (xs ++ ys) y → (IsAmong (xs ++ ys) y → IsAmong xs y ⊎ IsAmong ys y)
+        → IsAmong (x ∷ xs) y ⊎ IsAmong ys y
     by (inl e) more = inl (among_same x y xs (sym e))
     by (inr k) more = then (more k)
       where
@@ -55,4 +56,5 @@ among_parted (x ∷ xs) y h = by (among_cases x y xs h) (λ k. among_parted xs y
   where
     by : (y ≡ x) ⊎ IsAmong xs y → (IsAmong xs y → Parted xs y) → Parted (x ∷ xs) y
     by (inl e) more = record { front = []; rear = xs; parts = ap (λ z. z ∷ xs) (sym e) }
-    by (inr k) more = let p = more k in record { front = x ∷ p.front; rear = p.rear; parts = ap (λ l. x ∷ l) p.parts }
+    by (inr k) more =
+        let p = more k in record { front = x ∷ p.front; rear = p.rear; parts = ap (λ l. x ∷ l) p.parts }

@@ -1,5 +1,6 @@
 -- Words, bodies and their padding.
-use Rattle.std.proofs.Common.{lit<, Bool, true, false, ◌&&◌, ◌≡◌, ℕ, zero, suc, ◌+◌, ◌*◌, ◌%◌, ◌^◌, ◌<◌, ◌≤◌, List, [], ◌∷◌, ◌++◌, length, get_or, refl, sym, ap, ◌∙◌, append_assoc, arith}
+use Rattle.std.proofs.Common.{lit<, Bool, true, false, ◌&&◌, ◌≡◌, ℕ, zero, suc, ◌+◌, ◌*◌, ◌%◌, ◌^◌, ◌<◌, ◌≤◌}
+use Rattle.std.proofs.Common.{List, [], ◌∷◌, ◌++◌, length, get_or, refl, sym, ap, ◌∙◌, append_assoc, arith}
 use Rattle.std.specs.Int.{from_be_bytes, w32}
 use Rattle.std.proofs.lemmas.Nat.{from_be_bytes-to_be_bytes_4}
 use Rattle.std.specs.Prelude.{nat_eq}
@@ -19,7 +20,8 @@ pub word_from : (n : ℕ) → n < 2 ^ 32 → from_be_bytes w32 (word n) ≡ n
 unfolding word
 word_from n lt = from_be_bytes-to_be_bytes_4 n lt
 
-pub word_cancel : (a b : ℕ) (x y : List ℕ) → a < 2 ^ 32 → b < 2 ^ 32 → word a ++ x ≡ word b ++ y → (a ≡ b) × (x ≡ y)
+pub word_cancel : (a b : ℕ) (x y : List ℕ) → a < 2 ^ 32 → b < 2 ^ 32 → word a ++ x ≡ word b ++ y
+    → (a ≡ b) × (x ≡ y)
 word_cancel a b x y la lb e =
     let c = cut_same (word a) x (word b) y e (word_length a ∙ sym (word_length b)) in
     (sym (word_from a la) ∙ ap (λ v. from_be_bytes w32 v) c.0 ∙ word_from b lb, c.1)
@@ -109,13 +111,19 @@ unfolding padding
 pad_left n h = omega arith
 
 -- the bytes of a body of so many bytes
-pub body_cancel : (a b x y : List ℕ) → length a ≡ length b → (a ++ copies (padding (length a)) 0) ++ x ≡ (b ++ copies (padding (length b)) 0) ++ y → (a ≡ b) × (x ≡ y)
+pub body_cancel : (a b x y : List ℕ) → length a ≡ length b → (a ++ copies (padding (length a)) 0) ++ x
+    ≡ (b ++ copies (padding (length b)) 0) ++ y → (a ≡ b) × (x ≡ y)
 body_cancel a b x y same e =
-    let e' : a ++ (copies (padding (length a)) 0 ++ x) ≡ b ++ (copies (padding (length b)) 0 ++ y) = sym (append_assoc a (copies (padding (length a)) 0) x) ∙ e ∙ append_assoc b (copies (padding (length b)) 0) y in
+    let e' : a ++ (copies (padding (length a)) 0 ++ x) ≡ b ++ (copies (padding (length b)) 0 ++ y) =
+    sym (append_assoc a (copies (padding (length a)) 0) x) ∙ e
+    ∙ append_assoc b (copies (padding (length b)) 0) y in
     let d = cut_same a (copies (padding (length a)) 0 ++ x) b (copies (padding (length b)) 0 ++ y) e' same in
     let p : padding (length a) ≡ padding (length b) = ap (λ v. padding v) same in
-    let f = cut_same (copies (padding (length a)) 0) x (copies (padding (length b)) 0) y d.1 (copies_length _ 0 ∙ p ∙ sym (copies_length _ 0)) in
+    let f = cut_same (copies (padding (length a)) 0) x (copies (padding (length b)) 0) y d.1
+    (copies_length _ 0 ∙ p ∙ sym (copies_length _ 0)) in
     (d.0, f.1)
 
-pub body_length : (bs : List ℕ) → length (bs ++ copies (padding (length bs)) 0) ≡ length bs + padding (length bs)
-body_length bs = length-append bs (copies {A = ℕ} (padding (length bs)) 0) ∙ ap (λ t. length bs + t) (copies_length (padding (length bs)) 0)
+pub body_length : (bs : List ℕ) → length (bs ++ copies (padding (length bs)) 0)
+    ≡ length bs + padding (length bs)
+body_length bs = length-append bs (copies {A = ℕ} (padding (length bs)) 0)
+    ∙ ap (λ t. length bs + t) (copies_length (padding (length bs)) 0)

@@ -13,5 +13,7 @@ pub not_none : (nodes : List Node) (i : ℕ) → i < length nodes → slice_get 
 not_none nodes i lt is = none-some (get_or nodes i none) (sym is ∙ slice_get-get_or nodes i none lt)
 
 -- the nodes from a place on
-pub left_at : (nodes : List Node) (i : ℕ) (n : Node) → i < length nodes → slice_get nodes i ≡ Some n → drop i nodes ≡ n ∷ drop (i + 1) nodes
-left_at nodes i n lt is = drop_one nodes i n lt ∙ ap (λ z. z ∷ drop (i + 1) nodes) (get_or_from_slice_get nodes i n n is)
+pub left_at : (nodes : List Node) (i : ℕ) (n : Node) → i < length nodes → slice_get nodes i ≡ Some n
+    → drop i nodes ≡ n ∷ drop (i + 1) nodes
+left_at nodes i n lt is = drop_one nodes i n lt
+    ∙ ap (λ z. z ∷ drop (i + 1) nodes) (get_or_from_slice_get nodes i n n is)

@@ -8,7 +8,8 @@ use Rattle.x_value.specs.Lines.{hex_byte, quoted_byte, is_plain}
 abbrev shown : Bool → Bool → ℕ → List ℕ
 shown marked printed b = if marked then 92 ∷ b ∷ [] else if printed then b ∷ [] else codes "\\x" ++ hex_byte b
 
-plain_shown : (marked printed : Bool) (b : ℕ) → (printed && not marked) ≡ true → shown marked printed b ≡ b ∷ []
+plain_shown : (marked printed : Bool) (b : ℕ) → (printed && not marked) ≡ true
+    → shown marked printed b ≡ b ∷ []
 plain_shown false true b h = refl
 plain_shown false false b h = cc
 plain_shown true true b h = cc
@@ -24,4 +25,6 @@ pub plain_text : (bs : List ℕ) → list_all is_plain bs ≡ true → flat_map 
 plain_text [] h = refl
 plain_text (b ∷ bs) h =
     let parts = both (is_plain b) (list_all is_plain bs) h in
-    ap (λ t. t ++ flat_map quoted_byte bs) (plain_shown (b == 34 || b == 92) (nat_le 32 b && nat_le b 126) b parts.0) ∙ ap (λ t. b ∷ t) (plain_text bs parts.1)
+    ap (λ t. t ++ flat_map quoted_byte bs)
+    (plain_shown (b == 34 || b == 92) (nat_le 32 b && nat_le b 126) b parts.0)
+    ∙ ap (λ t. b ∷ t) (plain_text bs parts.1)

@@ -39,14 +39,20 @@ BeginsEncoding s id front = (rest : List ℕ) × IsEncoding s id (front ++ rest)
 abbrev pub NoFrontIsEncoding : Schema → TypeId → List ℕ → Type 0
 NoFrontIsEncoding s id bytes = (a b : List ℕ) → bytes ≡ a ++ b → IsEncoding s id a → ⊥
 
+-- among the roles of units is one behind those of the front, in which the unit is refused for this reason
+pub record RefusesUnit (s : Schema) (units : List UnitRole) (front unit : List ℕ)
+    (code : ReadCode) : Type 0 where
+  pub before : List UnitRole
+  pub role : UnitRole
+  pub after : List UnitRole
+  pub units_are : units ≡ before ++ (role ∷ after)
+  pub place : length front ≡ 4 * length before
+  pub fault : fault_of s role unit ≡ Some code
+
 -- in each encoding that begins with the front, the unit behind it would be refused for this reason
 abbrev pub IsCause : Schema → TypeId → List ℕ → List ℕ → ReadCode → Type 0
-IsCause s id front unit code =
-    (v : Value) (y : List ℕ) → IsOf s id v → front ++ y ≡ enc v →
-    (before : List UnitRole) × (role : UnitRole) × (after : List UnitRole) ×
-    (roles s (root_job s id).layout (root_job s id).spot v ≡ before ++ (role ∷ after)) ×
-    (length front ≡ 4 * length before) ×
-    (fault_of s role unit ≡ Some code)
+IsCause s id front unit code = (v : Value) (y : List ℕ) → IsOf s id v → front ++ y ≡ enc v
+    → RefusesUnit s (roles s (root_job s id).layout (root_job s id).spot v) front unit code
 
 -- the first whole unit to whose end the bytes begin no encoding
 pub record IsBadUnit (s : Schema) (id : TypeId) (bytes : List ℕ) (at : ℕ) (code : ReadCode) : Type 0 where

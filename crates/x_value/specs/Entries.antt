@@ -46,10 +46,10 @@ abbrev pub IsCalled : ℕ → CompactLabel → Type 0
 IsCalled n (labels.Name name) = name < n
 IsCalled n _ = Unit {0}
 
-abbrev pub IsKept : ℕ → CompactLeaf → Type 0
-IsKept n (leaves.Enumerator name number) = name < n
-IsKept n _ = Unit {0}
+abbrev pub IsKeptLeaf : ℕ → CompactLeaf → Type 0
+IsKeptLeaf n (leaves.Enumerator name number) = name < n
+IsKeptLeaf n _ = Unit {0}
 
 abbrev pub AreNamed : ℕ → List CompactNode → Type 0
 AreNamed n [] = Unit {0}
-AreNamed n (e ∷ es) = IsCalled n e.label × IsKept n e.leaf × AreNamed n es
+AreNamed n (e ∷ es) = IsCalled n e.label × IsKeptLeaf n e.leaf × AreNamed n es

@@ -42,27 +42,27 @@ pub data Layout : Type 0 where
 
 -- ---- forms
 
-abbrev pub signed_word : List ℕ → Leaf
-signed_word bs = Signed (cast_signed w32 (from_be_bytes w32 bs))
+abbrev pub int_leaf : List ℕ → Leaf
+int_leaf bs = Signed (cast_signed w32 (from_be_bytes w32 bs))
 
-abbrev pub unsigned_word : List ℕ → Leaf
-unsigned_word bs = Unsigned (from_be_bytes w32 bs)
+abbrev pub unsigned_int_leaf : List ℕ → Leaf
+unsigned_int_leaf bs = Unsigned (from_be_bytes w32 bs)
 
-abbrev pub signed_words : List ℕ → Leaf
-signed_words bs = Signed (cast_signed w64 (from_be_bytes w64 bs))
+abbrev pub hyper_leaf : List ℕ → Leaf
+hyper_leaf bs = Signed (cast_signed w64 (from_be_bytes w64 bs))
 
-abbrev pub unsigned_words : List ℕ → Leaf
-unsigned_words bs = Unsigned (from_be_bytes w64 bs)
+abbrev pub unsigned_hyper_leaf : List ℕ → Leaf
+unsigned_hyper_leaf bs = Unsigned (from_be_bytes w64 bs)
 
 abbrev pub nothing : List ℕ → Leaf
 nothing bs = Void
 
 abbrev pub layout_of : Schema → Form → Layout
 layout_of s forms.Void = Fixed nothing 0
-layout_of s forms.Int = Fixed signed_word 4
-layout_of s forms.UnsignedInt = Fixed unsigned_word 4
-layout_of s forms.Hyper = Fixed signed_words 8
-layout_of s forms.UnsignedHyper = Fixed unsigned_words 8
+layout_of s forms.Int = Fixed int_leaf 4
+layout_of s forms.UnsignedInt = Fixed unsigned_int_leaf 4
+layout_of s forms.Hyper = Fixed hyper_leaf 8
+layout_of s forms.UnsignedHyper = Fixed unsigned_hyper_leaf 8
 layout_of s forms.Float = Fixed Hex 4
 layout_of s forms.Double = Fixed Hex 8
 layout_of s forms.Quadruple = Fixed Hex 16
@@ -101,10 +101,10 @@ number_size _ = 0
 -- what a body of the form is shown as
 abbrev pub body_leaf : Form → List ℕ → Leaf
 body_leaf forms.Void bs = Void
-body_leaf forms.Int bs = signed_word bs
-body_leaf forms.UnsignedInt bs = unsigned_word bs
-body_leaf forms.Hyper bs = signed_words bs
-body_leaf forms.UnsignedHyper bs = unsigned_words bs
+body_leaf forms.Int bs = int_leaf bs
+body_leaf forms.UnsignedInt bs = unsigned_int_leaf bs
+body_leaf forms.Hyper bs = hyper_leaf bs
+body_leaf forms.UnsignedHyper bs = unsigned_hyper_leaf bs
 body_leaf (forms.String most) bs = Text bs
 body_leaf _ bs = Hex bs
 

@@ -1,5 +1,6 @@
 -- The names of a text that clash, and the lines that tell them.
-use Rattle.std.proofs.Common.{◌≡◌, ◌<◌, ◌≤◌, ◌+◌, ◌^◌, ℕ, suc, Bool, true, nat_eq, List, [], ◌∷◌, Option, map, drop}
+use Rattle.std.proofs.Common.{◌≡◌, ◌<◌, ◌≤◌, ◌+◌, ◌^◌, ℕ, suc, Bool, true, nat_eq, List, [], ◌∷◌, Option, map}
+use Rattle.std.proofs.Common.{drop}
 use Rattle.std.proofs.Common.{get_or, length, refl, sym, ap, subst, ◌∙◌, arith}
 use Rattle.std.proofs.lemmas.Bool.Decides.{nat_tests}
 use Rattle.std.specs.List.{flat_map}
@@ -36,7 +37,8 @@ clashes_are text definitions taken found count few tokens are same clash =
     let many = of_each text tokens are.0 items are.2 in
     let le : length (tokens_of items) ≤ count = omega (arith, many) in
     let short : AreShort definitions =
-    subst AreShort (sym are.3) (λ index d there. short_each items index d count are.2.are_parses le few there) in
+    subst AreShort (sym are.3)
+    (λ index d there. short_each items index d count are.2.are_parses le few there) in
     let kinds : taken ≡ taken_as = λ i name. same name i in
     let P : (List ℕ → Option TakenAs) → Type 0 = λ f. AreClashes f 0 [] definitions found in
     let Q : List (Option Definition) → Type 0 = λ ds. AreClashes taken_as 0 [] ds found in

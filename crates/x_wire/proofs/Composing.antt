@@ -1,4 +1,5 @@
--- Calls of `feed` one after another, and the end of a stream. A reader keeps `IsStreamSoFar stream given kept`: the
+-- Calls of `feed` one after another, and the end of a stream.
+-- A reader keeps `IsStreamSoFar stream given kept`: the
 -- bytes that it fed so far are the stream, the records that it was answered are those of the stream, and what
 -- its `Records` keeps is what the stream leaves.
 use Rattle.std.proofs.Common.{◌≡◌, ℕ, ◌+◌, ◌-◌, List, [], ◌∷◌, ◌++◌, length, take, drop, refl, sym}
@@ -74,7 +75,8 @@ block_whole stream block given i used whole old new read feeds =
 -- `feed` answered no record of the rest of a block
 pub block_rest : (stream block : List ℕ) (given : List (List ℕ)) (i used : ℕ) (old new : Left) →
     IsStreamSoFar (stream ++ take i block) given old →
-    Feeds old (take (length block - i) (drop i block)) used None new → IsStreamSoFar (stream ++ block) given new
+    Feeds old (take (length block - i) (drop i block)) used None new
+    → IsStreamSoFar (stream ++ block) given new
 block_rest stream block given i used old new read feeds =
     let e : (stream ++ take i block) ++ take (length block - i) (drop i block) ≡ stream ++ block =
     append_assoc stream (take i block) (take (length block - i) (drop i block))

@@ -93,6 +93,7 @@ impl<K: Drop> Items<K> {
     pub fn reserve(&mut self, patch: &ItemPatch<K>) -> Result<(), NoMemory>
         ensures list { self.new.list ≡ self.old.list }
         ensures seat { self.new.seat ≡ self.old.seat }
+        ensures still { self.new.moved ≡ self.old.moved }
         ensures ok { OnOk result (HasRoom self.new patch.now) }
         ensures full { OnErr result (self.old.spare < length patch.now.fresh) }
         ensures room { self.old.spare ≤ self.new.spare }
@@ -108,6 +109,7 @@ impl<K: Drop> Items<K> {
         ensures list { self.new.list ≡ patched self.old.list patch }
         ensures seat { self.new.seat ≡ patch.at + length patch.fresh }
         ensures moved { result ≡ distance self.old.seat patch.at (patch.at + patch.removed) }
+        ensures counted { self.new.moved ≡ self.old.moved + result }
         ensures room { self.old.spare + patch.removed ≤ self.new.spare + length patch.fresh }
     {
         self.entries.put(patch.into_entries())
@@ -123,6 +125,7 @@ impl<K: Drop> Items<K> {
         ensures kept { kept self.new.list ≡ slice_set (kept self.old.list) index new }
         ensures seat { self.new.seat ≡ index + 1 }
         ensures moved { result.1 ≡ distance self.old.seat index (index + 1) }
+        ensures counted { self.new.moved ≡ self.old.moved + result.1 }
         ensures room { self.old.spare ≤ self.new.spare }
     {
         let entry = ItemEntry::in_place_of(self.entries.get(index), new);

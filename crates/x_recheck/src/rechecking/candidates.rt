@@ -5,11 +5,11 @@ ghost use Rattle.std.specs.Prelude.{IsTrue, true, false};
 ghost use Rattle.x_trees.specs.Tree.{Definition as Tree};
 ghost use Rattle.x_names.specs.declared.names.Declarer.{Declarer as First};
 ghost use Rattle.x_recheck.specs.Editing.{count_after, definition_at, definitions_after, old_number};
-ghost use Rattle.x_recheck.specs.Rechecking.{AddsItemsFrom, AreCovered, AreCoveredAt, AreEditedItems};
-ghost use Rattle.x_recheck.specs.Rechecking.{IsAlike};
-ghost use Rattle.x_recheck.specs.Rechecking.{IsCovered, IsFirst, IsFormer, IsKept, IsKeptUser, IsNamed};
-ghost use Rattle.x_recheck.specs.Rechecking.{IsReady};
-ghost use Rattle.x_recheck.specs.Rechecking.{edit_of, is_waiting};
+ghost use Rattle.x_recheck.specs.inside.Deciding.{AddsItemsFrom, AreCovered, AreCoveredAt, AreEditedItems};
+ghost use Rattle.x_recheck.specs.inside.Deciding.{IsAlike};
+ghost use Rattle.x_recheck.specs.inside.Deciding.{IsCovered, IsFirst, IsFormer, IsOfOld, IsKeptUser, IsNamed};
+ghost use Rattle.x_recheck.specs.inside.Deciding.{IsReady};
+ghost use Rattle.x_recheck.specs.inside.Deciding.{text_edit, is_waiting};
 
 use super::CheckedItems;
 use super::edited_items::EditedItems;
@@ -27,8 +27,8 @@ fn add_user<L: CheckedItems>(
     queue: &mut Queue,
 ) -> Result<(), NoMemory>
     requires items { AreEditedItems L.text items.now }
-    requires was { was < length (edit_of L.text items.now).old }
-    ensures adds { OnOk result (AddsItemsFrom (edit_of L.text items.now) queue.old queue.new low) }
+    requires was { was < length (text_edit L.text items.now).old }
+    ensures adds { OnOk result (AddsItemsFrom (text_edit L.text items.now) queue.old queue.new low) }
     ensures waits { OnOk result ((k : ℕ) → low ≤ k → old_number items.now.place k ≡ Some was
         → is_waiting queue.new k ≡ true) }
 {
@@ -46,8 +46,8 @@ pub fn add_users<L: CheckedItems>(
     queue: &mut Queue,
 ) -> Result<(), NoMemory>
     requires { AreEditedItems L.text items.now }
-    ensures adds { OnOk result (AddsItemsFrom (edit_of L.text items.now) queue.old queue.new low) }
-    ensures waits { OnOk result ((k : ℕ) → low ≤ k → IsKeptUser (edit_of L.text items.now) k name.now
+    ensures adds { OnOk result (AddsItemsFrom (text_edit L.text items.now) queue.old queue.new low) }
+    ensures waits { OnOk result ((k : ℕ) → low ≤ k → IsKeptUser (text_edit L.text items.now) k name.now
         → is_waiting queue.new k ≡ true) }
 {
     for user in items.users(name) {
@@ -59,7 +59,7 @@ pub fn add_users<L: CheckedItems>(
 /// Whether an item before the edit is this one after it, or went for a fresh one.
 fn is_former<L: CheckedItems>(items: &EditedItems<L>, before: usize, after: usize) -> bool
     requires items { AreEditedItems L.text items.now }
-    requires after { after < count_after (edit_of L.text items.now) }
+    requires after { after < count_after (text_edit L.text items.now) }
     ensures { IsTrue result → IsFormer items.now.place before (old_number items.now.place after) }
 {
     let place = items.place;
@@ -77,7 +77,7 @@ fn is_alike<L: CheckedItems>(
     after: Option<Declarer>,
 ) -> bool
     requires items { AreEditedItems L.text items.now }
-    requires after { (f : First) → after ≡ Some f → f.item < count_after (edit_of L.text items.now) }
+    requires after { (f : First) → after ≡ Some f → f.item < count_after (text_edit L.text items.now) }
     ensures { IsTrue result → IsAlike items.now.place before after }
 {
     match (before, after) {
@@ -105,7 +105,7 @@ fn is_at(first: Option<Declarer>, item: usize, place: usize) -> bool
 /// edited.
 fn may_have_kept_users<L: CheckedItems>(items: &EditedItems<L>, name: &[u8]) -> bool
     requires { AreEditedItems L.text items.now }
-    ensures { (k : ℕ) → IsKeptUser (edit_of L.text items.now) k name.now → IsTrue result }
+    ensures { (k : ℕ) → IsKeptUser (text_edit L.text items.now) k name.now → IsTrue result }
 {
     match items.users(name) {
         [] => false,
@@ -124,10 +124,10 @@ fn add_candidates<L: CheckedItems>(
     queue: &mut Queue,
 ) -> Result<(), NoMemory>
     requires { AreEditedItems L.text items.now }
-    ensures adds { OnOk result (AddsItemsFrom (edit_of L.text items.now) queue.old queue.new 0) }
-    ensures covered { OnOk result ((f : First) → IsFirst (edit_of L.text items.now) name.now f
+    ensures adds { OnOk result (AddsItemsFrom (text_edit L.text items.now) queue.old queue.new 0) }
+    ensures covered { OnOk result ((f : First) → IsFirst (text_edit L.text items.now) name.now f
         → f.item ≡ item → f.place ≡ place
-        → IsCovered (edit_of L.text items.now) (is_waiting queue.new) name.now) }
+        → IsCovered (text_edit L.text items.now) (is_waiting queue.new) name.now) }
 {
     if !may_have_kept_users(items, name) {
         return Ok(());
@@ -151,10 +151,10 @@ fn add_candidates_of<L: CheckedItems>(
     queue: &mut Queue,
 ) -> Result<(), NoMemory>
     requires { AreEditedItems L.text items.now }
-    ensures adds { OnOk result (AddsItemsFrom (edit_of L.text items.now) queue.old queue.new 0) }
+    ensures adds { OnOk result (AddsItemsFrom (text_edit L.text items.now) queue.old queue.new 0) }
     ensures covered { OnOk result ((name : List ℕ) (f : First)
-        → IsFirst (edit_of L.text items.now) name f → f.item ≡ item → IsNamed names.now f.place name
-        → IsCovered (edit_of L.text items.now) (is_waiting queue.new) name) }
+        → IsFirst (text_edit L.text items.now) name f → f.item ≡ item → IsNamed names.now f.place name
+        → IsCovered (text_edit L.text items.now) (is_waiting queue.new) name) }
 {
     for (place, declared) in names.iter().enumerate() {
         add_candidates(items, item, place, &declared.name, queue)?;
@@ -171,9 +171,9 @@ fn add_gone<'i, L: CheckedItems>(
     queue: &mut Queue,
 ) -> Result<(), NoMemory>
     requires { AreEditedItems L.text items.now }
-    ensures adds { OnOk result (AddsItemsFrom (edit_of L.text items.now) queue.old queue.new 0) }
-    ensures covered { OnOk result (AreCoveredAt (edit_of L.text items.now) (is_waiting queue.new)
-        (edit_of L.text items.now).old item) }
+    ensures adds { OnOk result (AddsItemsFrom (text_edit L.text items.now) queue.old queue.new 0) }
+    ensures covered { OnOk result (AreCoveredAt (text_edit L.text items.now) (is_waiting queue.new)
+        (text_edit L.text items.now).old item) }
 {
     let Some(definition) = items.old_definition(item) else {
         return Ok(());
@@ -191,13 +191,13 @@ fn add_fresh<'i, L: CheckedItems>(
     queue: &mut Queue,
 ) -> Result<(), NoMemory>
     requires items { AreEditedItems L.text items.now }
-    requires item { item < count_after (edit_of L.text items.now) }
-    ensures adds { OnOk result (AddsItemsFrom (edit_of L.text items.now) queue.old queue.new 0) }
+    requires item { item < count_after (text_edit L.text items.now) }
+    ensures adds { OnOk result (AddsItemsFrom (text_edit L.text items.now) queue.old queue.new 0) }
     ensures waits { OnOk result ((d : Tree)
-        → definition_at (definitions_after (edit_of L.text items.now)) item ≡ Some d
+        → definition_at (definitions_after (text_edit L.text items.now)) item ≡ Some d
         → is_waiting queue.new item ≡ true) }
-    ensures covered { OnOk result (AreCoveredAt (edit_of L.text items.now) (is_waiting queue.new)
-        (definitions_after (edit_of L.text items.now)) item) }
+    ensures covered { OnOk result (AreCoveredAt (text_edit L.text items.now) (is_waiting queue.new)
+        (definitions_after (text_edit L.text items.now)) item) }
 {
     let Some(definition) = items.definition(item) else {
         return Ok(());
@@ -214,9 +214,9 @@ fn add_all_gone<L: CheckedItems>(
     queue: &mut Queue,
 ) -> Result<(), NoMemory>
     requires { AreEditedItems L.text items.now }
-    ensures adds { OnOk result (AddsItemsFrom (edit_of L.text items.now) queue.old queue.new 0) }
-    ensures covered { OnOk result (AreCovered (edit_of L.text items.now) (is_waiting queue.new)
-        (edit_of L.text items.now).old items.now.place.at
+    ensures adds { OnOk result (AddsItemsFrom (text_edit L.text items.now) queue.old queue.new 0) }
+    ensures covered { OnOk result (AreCovered (text_edit L.text items.now) (is_waiting queue.new)
+        (text_edit L.text items.now).old items.now.place.at
         (items.now.place.at + items.now.place.removed)) }
 {
     let place = items.place;
@@ -234,11 +234,11 @@ fn add_all_fresh<L: CheckedItems>(
     queue: &mut Queue,
 ) -> Result<(), NoMemory>
     requires { AreEditedItems L.text items.now }
-    ensures adds { OnOk result (AddsItemsFrom (edit_of L.text items.now) queue.old queue.new 0) }
+    ensures adds { OnOk result (AddsItemsFrom (text_edit L.text items.now) queue.old queue.new 0) }
     ensures kept { OnOk result ((k : ℕ) → is_waiting queue.new k ≡ false
-        → IsKept (edit_of L.text items.now) k) }
-    ensures covered { OnOk result (AreCovered (edit_of L.text items.now) (is_waiting queue.new)
-        (definitions_after (edit_of L.text items.now)) items.now.place.at
+        → IsOfOld (text_edit L.text items.now) k) }
+    ensures covered { OnOk result (AreCovered (text_edit L.text items.now) (is_waiting queue.new)
+        (definitions_after (text_edit L.text items.now)) items.now.place.at
         (items.now.place.at + items.now.place.added)) }
 {
     let place = items.place;
@@ -255,7 +255,7 @@ pub fn first_candidates<L: CheckedItems>(
     items: &EditedItems<L>,
 ) -> Result<Queue, NoMemory>
     requires { AreEditedItems L.text items.now }
-    ensures { IfOk result (λ queue. IsReady (edit_of L.text items.now) queue [] 0) }
+    ensures { IfOk result (λ queue. IsReady (text_edit L.text items.now) queue [] 0) }
 {
     let mut queue = Queue::new(alloc);
     add_all_gone(alloc, items, &mut queue)?;

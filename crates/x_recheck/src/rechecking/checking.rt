@@ -9,9 +9,10 @@ ghost use Rattle.x_outline.specs.Outlines.{IsOutline, outlined};
 ghost use Rattle.x_rules.specs.Results.{Outcome, AreResults, meaning_at, result_at};
 ghost use Rattle.x_rules.specs.RustViews.{view_meaning};
 ghost use Rattle.x_recheck.specs.Editing.{definitions_after, definition_at, count_after};
-ghost use Rattle.x_recheck.specs.Rechecking.{AddsItemsFrom, IsDecided, AreEditedItems, IsFoundAs, IsMeantAs};
-ghost use Rattle.x_recheck.specs.Rechecking.{IsReady, IsNamed, IsWaitedFor, HasAdvanced};
-ghost use Rattle.x_recheck.specs.Rechecking.{CountsOn, counts_found, edit_of, is_waiting};
+ghost use Rattle.x_recheck.specs.inside.Deciding.{AddsItemsFrom, IsDecided, AreEditedItems, IsFoundAs};
+ghost use Rattle.x_recheck.specs.inside.Deciding.{IsMeantAs};
+ghost use Rattle.x_recheck.specs.inside.Deciding.{IsReady, IsNamed, IsWaitedFor, HasAdvanced};
+ghost use Rattle.x_recheck.specs.inside.Deciding.{CountsOn, counts_found, text_edit, is_waiting};
 ghost use Rattle.x_recheck.specs.Staleness.{Ascending, checked_more, items_of, result_after};
 
 use super::candidates::add_users;
@@ -35,14 +36,14 @@ fn find_result<L: CheckedItems>(
     meter: &mut Meter,
 ) -> Result<Option<Checked>, NoMemory>
     requires items { AreEditedItems L.text items.now }
-    requires item { item < count_after (edit_of L.text items.now) }
+    requires item { item < count_after (text_edit L.text items.now) }
     requires ascend { Ascending 0 (items_of rechecked.now) }
     ensures found { IfOk result (λ found. (after : List (Option Outcome))
-        → AreResults (edit_of L.text items.now).known (definitions_after (edit_of L.text items.now)) after
-        → ((j : ℕ) → j < item → result_after (edit_of L.text items.now) rechecked.now j ≡ result_at after j)
+        → AreResults (text_edit L.text items.now).known (definitions_after (text_edit L.text items.now)) after
+        → ((j : ℕ) → j < item → result_after (text_edit L.text items.now) rechecked.now j ≡ result_at after j)
         → IsOutline outline.now
-        → definition_at (definitions_after (edit_of L.text items.now)) item ≡ Some (outlined outline.now)
-        → IsFoundAs (edit_of L.text items.now) after item found) }
+        → definition_at (definitions_after (text_edit L.text items.now)) item ≡ Some (outlined outline.now)
+        → IsFoundAs (text_edit L.text items.now) after item found) }
     ensures counted { IfOk result (λ found. meter.new ≡ counts_found meter.old found) }
     ensures counts { CountsOn meter.old meter.new }
 {
@@ -58,7 +59,7 @@ fn find_result<L: CheckedItems>(
 
 /// What the name meant before the edit whose first declarer was this one.
 fn old_meaning<'i, L: CheckedItems>(items: &'i EditedItems<L>, first: Declarer) -> Meaning<'i>
-    ensures { view_meaning result ≡ meaning_at (result_at (edit_of L.text items.now).outcomes) first }
+    ensures { view_meaning result ≡ meaning_at (result_at (text_edit L.text items.now).outcomes) first }
 {
     match items.old_checked(first.item) {
         Some(checked) => checked.meaning(first.place),
@@ -83,7 +84,7 @@ fn means_same<L: CheckedItems>(
     checked: &Checked,
 ) -> bool
     requires { AreEditedItems L.text items.now }
-    ensures { IsTrue result → IsMeantAs (edit_of L.text items.now) item place checked.now name.now }
+    ensures { IsTrue result → IsMeantAs (text_edit L.text items.now) item place checked.now name.now }
 {
     match (items.first(name), items.first_after(name)) {
         (Some(before), Some(after)) if after.item == item && after.place == place => {
@@ -104,10 +105,10 @@ fn tell_name<L: CheckedItems>(
     queue: &mut Queue,
 ) -> Result<(), NoMemory>
     requires items { AreEditedItems L.text items.now }
-    requires item { item < count_after (edit_of L.text items.now) }
-    ensures adds { OnOk result (AddsItemsFrom (edit_of L.text items.now) queue.old queue.new
+    requires item { item < count_after (text_edit L.text items.now) }
+    ensures adds { OnOk result (AddsItemsFrom (text_edit L.text items.now) queue.old queue.new
         (item + 1)) }
-    ensures told { OnOk result (IsWaitedFor (edit_of L.text items.now) item place checked.now
+    ensures told { OnOk result (IsWaitedFor (text_edit L.text items.now) item place checked.now
         (is_waiting queue.new) name.now) }
 {
     if means_same(items, item, place, name, checked) {
@@ -125,11 +126,11 @@ fn tell<L: CheckedItems>(
     queue: &mut Queue,
 ) -> Result<(), NoMemory>
     requires items { AreEditedItems L.text items.now }
-    requires item { item < count_after (edit_of L.text items.now) }
-    ensures adds { OnOk result (AddsItemsFrom (edit_of L.text items.now) queue.old queue.new
+    requires item { item < count_after (text_edit L.text items.now) }
+    ensures adds { OnOk result (AddsItemsFrom (text_edit L.text items.now) queue.old queue.new
         (item + 1)) }
     ensures told { OnOk result ((name : List ℕ) (place : ℕ) → IsNamed names.now place name
-        → IsWaitedFor (edit_of L.text items.now) item place checked.now (is_waiting queue.new) name) }
+        → IsWaitedFor (text_edit L.text items.now) item place checked.now (is_waiting queue.new) name) }
 {
     for (place, declared) in names.iter().enumerate() {
         tell_name(items, item, place, &declared.name, checked, queue)?;
@@ -147,15 +148,16 @@ fn decide<L: CheckedItems>(
     meter: &mut Meter,
 ) -> Result<(), NoMemory>
     requires items { AreEditedItems L.text items.now }
-    requires item { item < count_after (edit_of L.text items.now) }
+    requires item { item < count_after (text_edit L.text items.now) }
     requires ascend { Ascending 0 (items_of rechecked.old.items) }
-    ensures adds { OnOk result (AddsItemsFrom (edit_of L.text items.now) queue.old queue.new
+    ensures adds { OnOk result (AddsItemsFrom (text_edit L.text items.now) queue.old queue.new
         (item + 1)) }
     ensures decided { OnOk result ((after : List (Option Outcome)) (waits : ℕ → Bool)
-        → AreResults (edit_of L.text items.now).known (definitions_after (edit_of L.text items.now)) after
-        → IsDecided (edit_of L.text items.now) after waits rechecked.old.items item
+        → AreResults (text_edit L.text items.now).known (definitions_after (text_edit L.text items.now)) after
+        → IsDecided (text_edit L.text items.now) after waits rechecked.old.items item
         → ((k : ℕ) → item < k → is_waiting queue.old k ≡ false → waits k ≡ false)
-        → IsDecided (edit_of L.text items.now) after (is_waiting queue.new) rechecked.new.items (item + 1)) }
+        → IsDecided (text_edit L.text items.now) after (is_waiting queue.new) rechecked.new.items
+        (item + 1)) }
     ensures counted { OnOk result ((base : Counts)
         → meter.old ≡ checked_more base (length rechecked.old.items)
         → meter.new ≡ checked_more base (length rechecked.new.items)) }
@@ -184,9 +186,9 @@ pub fn check_next<L: CheckedItems>(
     meter: &mut Meter,
 ) -> Result<Option<usize>, NoMemory>
     requires items { AreEditedItems L.text items.now }
-    requires ready { IsReady (edit_of L.text items.now) queue.old rechecked.old.items low }
+    requires ready { IsReady (text_edit L.text items.now) queue.old rechecked.old.items low }
     ensures turned { IfOk result (λ r. HasAdvanced
-        (edit_of L.text items.now) low r rechecked.new.items queue.new) }
+        (text_edit L.text items.now) low r rechecked.new.items queue.new) }
     ensures counted { OnOk result ((base : Counts)
         → meter.old ≡ checked_more base (length rechecked.old.items)
         → meter.new ≡ checked_more base (length rechecked.new.items)) }

@@ -9,7 +9,7 @@ ghost use Rattle.x_rules.specs.RustViews.{view_view};
 ghost use Rattle.x_recheck.specs.Editing.{definitions_after, definition_at, old_number, new_number};
 ghost use Rattle.x_recheck.specs.Editing.{count_after};
 ghost use Rattle.x_uses.specs.Occurrences.{users_of};
-ghost use Rattle.x_recheck.specs.Rechecking.{AreEditedItems, edit_of};
+ghost use Rattle.x_recheck.specs.inside.Deciding.{AreEditedItems, text_edit};
 ghost use Rattle.x_recheck.specs.Staleness.{Ascending, new_result, result_after, items_of};
 
 use super::numbers::{new_number, old_number};
@@ -33,7 +33,7 @@ impl<'s, L: CheckedItems> EditedItems<'s, L> {
     /// The number that an item had before the edit, unless it is fresh.
     pub fn old_number(&self, item: usize) -> Option<usize>
         requires items { AreEditedItems L.text self.now }
-        requires item { item < count_after (edit_of L.text self.now) }
+        requires item { item < count_after (text_edit L.text self.now) }
         ensures { result ≡ old_number self.now.place item }
     {
         old_number(self.place, item)
@@ -42,7 +42,7 @@ impl<'s, L: CheckedItems> EditedItems<'s, L> {
     /// The number that an item has after the edit, unless it goes.
     pub fn new_number(&self, item: usize) -> Option<usize>
         requires items { AreEditedItems L.text self.now }
-        requires item { item < length (edit_of L.text self.now).old }
+        requires item { item < length (text_edit L.text self.now).old }
         ensures { result ≡ new_number self.now.place item }
     {
         new_number(self.place, item)
@@ -50,7 +50,7 @@ impl<'s, L: CheckedItems> EditedItems<'s, L> {
 
     /// The definition of an item before the edit.
     pub fn old_definition(&self, item: usize) -> Option<&Definition>
-        ensures { tree_at result ≡ definition_at (edit_of L.text self.now).old item }
+        ensures { tree_at result ≡ definition_at (text_edit L.text self.now).old item }
     {
         self.old.definition(item)
     }
@@ -58,8 +58,8 @@ impl<'s, L: CheckedItems> EditedItems<'s, L> {
     /// The definition of an item after the edit.
     pub fn definition(&self, item: usize) -> Option<&Definition>
         requires items { AreEditedItems L.text self.now }
-        requires item { item < count_after (edit_of L.text self.now) }
-        ensures { tree_at result ≡ definition_at (definitions_after (edit_of L.text self.now)) item }
+        requires item { item < count_after (text_edit L.text self.now) }
+        ensures { tree_at result ≡ definition_at (definitions_after (text_edit L.text self.now)) item }
     {
         match old_number(self.place, item) {
             Some(old) => self.old.definition(old),
@@ -69,7 +69,7 @@ impl<'s, L: CheckedItems> EditedItems<'s, L> {
 
     /// What each item sees of a name that is known before the text.
     pub fn known(&self, name: &[u8]) -> Option<View<'_>>
-        ensures { option_map view_view result ≡ (edit_of L.text self.now).known name.now }
+        ensures { option_map view_view result ≡ (text_edit L.text self.now).known name.now }
     {
         self.old.known(name)
     }
@@ -77,7 +77,7 @@ impl<'s, L: CheckedItems> EditedItems<'s, L> {
     /// The first declarer of a name before the edit.
     pub fn first(&self, name: &[u8]) -> Option<Declarer>
         requires { AreEditedItems L.text self.now }
-        ensures { result ≡ first_declarer (edit_of L.text self.now).old name.now }
+        ensures { result ≡ first_declarer (text_edit L.text self.now).old name.now }
     {
         self.uses.first(name)
     }
@@ -85,7 +85,7 @@ impl<'s, L: CheckedItems> EditedItems<'s, L> {
     /// The first declarer of a name after the edit.
     pub fn first_after(&self, name: &[u8]) -> Option<Declarer>
         requires { AreEditedItems L.text self.now }
-        ensures { result ≡ first_declarer (definitions_after (edit_of L.text self.now)) name.now }
+        ensures { result ≡ first_declarer (definitions_after (text_edit L.text self.now)) name.now }
     {
         self.uses.first_after(self.fresh, self.place, name)
     }
@@ -93,14 +93,14 @@ impl<'s, L: CheckedItems> EditedItems<'s, L> {
     /// The items before the edit that declare or use a name.
     pub fn users(&self, name: &[u8]) -> &[u32]
         requires { AreEditedItems L.text self.now }
-        ensures { result.now ≡ users_of 0 (edit_of L.text self.now).old name.now }
+        ensures { result.now ≡ users_of 0 (text_edit L.text self.now).old name.now }
     {
         self.uses.users(name)
     }
 
     /// What checking an item before the edit found.
     pub fn old_checked(&self, item: usize) -> Option<&Checked>
-        ensures { lent_outcome result ≡ result_at (edit_of L.text self.now).outcomes item }
+        ensures { lent_outcome result ≡ result_at (text_edit L.text self.now).outcomes item }
     {
         self.old.checked(item)
     }
@@ -108,9 +108,9 @@ impl<'s, L: CheckedItems> EditedItems<'s, L> {
     /// What is known of an item after the edit: what was found anew, or else what was found before.
     pub fn checked<'c>(&'c self, rechecked: &'c [Rechecked], item: usize) -> Option<&'c Checked>
         requires items { AreEditedItems L.text self.now }
-        requires item { item < count_after (edit_of L.text self.now) }
+        requires item { item < count_after (text_edit L.text self.now) }
         requires ascend { Ascending 0 (items_of rechecked.now) }
-        ensures { lent_outcome result ≡ result_after (edit_of L.text self.now) rechecked.now item }
+        ensures { lent_outcome result ≡ result_after (text_edit L.text self.now) rechecked.now item }
     {
         match find_checked(rechecked, item) {
             Some(checked) => Some(checked),

@@ -1,7 +1,7 @@
 //! The items that wait for a check.
 
 ghost use Rattle.std.specs.Prelude.{◌≡◌, ◌<◌, ℕ, IfSome, IfNone, OnOk, true, false};
-ghost use Rattle.x_recheck.specs.Rechecking.{is_waiting};
+ghost use Rattle.x_recheck.specs.inside.Deciding.{is_waiting};
 
 use std::alloc::Global;
 use std::collections::BTreeSet;

@@ -7,7 +7,7 @@ ghost use Rattle.x_rules.specs.Results.{result_at, view_by};
 ghost use Rattle.x_rules.specs.RustViews.{view_view};
 ghost use Rattle.x_trees.specs.Seen.{names_of};
 ghost use Rattle.x_recheck.specs.Editing.{definitions_after};
-ghost use Rattle.x_recheck.specs.Rechecking.{AreEditedItems, SeesSame, SeesOther, edit_of};
+ghost use Rattle.x_recheck.specs.inside.Deciding.{AreEditedItems, SeesSame, SeesOther, text_edit};
 ghost use Rattle.x_recheck.specs.Staleness.{Ascending, result_after, items_of};
 
 use super::edited_items::EditedItems;
@@ -20,8 +20,8 @@ use x_text::NoMemory;
 fn old_view<'v, L: CheckedItems>(items: &'v EditedItems<L>, item: usize, name: &[u8]) -> View<'v>
     requires { AreEditedItems L.text items.now }
     ensures { view_view result
-        ≡ view_by (edit_of L.text items.now).known (edit_of L.text items.now).old (result_at
-        (edit_of L.text items.now).outcomes) item name.now }
+        ≡ view_by (text_edit L.text items.now).known (text_edit L.text items.now).old (result_at
+        (text_edit L.text items.now).outcomes) item name.now }
 {
     let first = items.first(name);
     let declaring = match first {
@@ -41,8 +41,8 @@ fn new_view<'v, L: CheckedItems>(
     requires items { AreEditedItems L.text items.now }
     requires ascend { Ascending 0 (items_of rechecked.now) }
     ensures { view_view result
-        ≡ view_by (edit_of L.text items.now).known (definitions_after (edit_of L.text items.now))
-        (result_after (edit_of L.text items.now) rechecked.now) item name.now }
+        ≡ view_by (text_edit L.text items.now).known (definitions_after (text_edit L.text items.now))
+        (result_after (text_edit L.text items.now) rechecked.now) item name.now }
 {
     let first = items.first_after(name);
     let declaring = match first {
@@ -70,8 +70,8 @@ fn sees_name_same<L: CheckedItems>(
     requires items { AreEditedItems L.text items.now }
     requires ascend { Ascending 0 (items_of rechecked.now) }
     ensures { IsTrue result
-        ↔ SeesSame (edit_of L.text items.now) (result_after
-        (edit_of L.text items.now) rechecked.now) was item name.now }
+        ↔ SeesSame (text_edit L.text items.now) (result_after
+        (text_edit L.text items.now) rechecked.now) was item name.now }
 {
     is_same_view(
         &old_view(items, was, name),
@@ -91,11 +91,11 @@ pub fn sees_same<L: CheckedItems>(
     requires ascend { Ascending 0 (items_of rechecked.now) }
     ensures same { IsTrue result → IsOutline outline.now → (name : List ℕ)
         → IsAmong (names_of (outlined outline.now)) name
-        → SeesSame (edit_of L.text items.now) (result_after
-        (edit_of L.text items.now) rechecked.now) was item name }
+        → SeesSame (text_edit L.text items.now) (result_after
+        (text_edit L.text items.now) rechecked.now) was item name }
     ensures other { IsFalse result → IsOutline outline.now
-        → SeesOther (edit_of L.text items.now) (result_after
-        (edit_of L.text items.now) rechecked.now) was item (names_of (outlined outline.now)) }
+        → SeesOther (text_edit L.text items.now) (result_after
+        (text_edit L.text items.now) rechecked.now) was item (names_of (outlined outline.now)) }
 {
     for declared in outline.declared() {
         if !sees_name_same(items, rechecked, was, item, &declared.name) {
@@ -122,8 +122,8 @@ pub fn views_of<'v, L: CheckedItems>(
     requires items { AreEditedItems L.text items.now }
     requires ascend { Ascending 0 (items_of rechecked.now) }
     ensures { IfOk result (λ views. IsOutline outline.now → map view_view views.items
-        ≡ map (view_by (edit_of L.text items.now).known (definitions_after (edit_of L.text items.now))
-        (result_after (edit_of L.text items.now) rechecked.now) item) (names_of (outlined outline.now))) }
+        ≡ map (view_by (text_edit L.text items.now).known (definitions_after (text_edit L.text items.now))
+        (result_after (text_edit L.text items.now) rechecked.now) item) (names_of (outlined outline.now))) }
 {
     let count = outline
         .declared()

@@ -13,7 +13,7 @@ ghost use Rattle.x_rules.specs.Constants.{Known, knowns, limit_of, is_declared_b
 ghost use Rattle.x_rules.specs.RustViews.{view_view};
 ghost use Rattle.std.specs.Option.{option_map_or};
 ghost use Rattle.std.specs.Str.{bytes_eq};
-ghost use Rattle.x_rules.specs.Constants.{number_before, number_by, number_seen, number_of};
+ghost use Rattle.x_rules.specs.Constants.{number_before, number_by, number_seen, enumerator_number};
 ghost use Rattle.x_numbers.specs.Numbers.{next_number};
 ghost use Rattle.x_outline.specs.Parts.{view_enumerator_at};
 ghost use Rattle.x_rules.specs.Tables.{HasNumbers, OnNumbers, seen_by};
@@ -161,23 +161,24 @@ impl<'v> Constants<'v> {
     fn number_given(&self, sights: &Sights, before: Option<i128>, place: usize) -> Option<i128>
         ensures { (all : List bodies.EnumeratorAt) (known : List Known) (e : bodies.EnumeratorAt)
             → HasNumbers self.now all known → slice_get all place ≡ Some e
-            → result ≡ number_of (seen_by sights.now) known before e }
+            → result ≡ enumerator_number (seen_by sights.now) known before e }
     {
         match self.list.items().get(place) {
-            Some(enumerator) => self.number_of(sights, before, enumerator),
+            Some(enumerator) => self.enumerator_number(sights, before, enumerator),
             None => None,
         }
     }
 
     /// The number of an enumerator behind those that have theirs.
-    fn number_of(
+    fn enumerator_number(
         &self,
         sights: &Sights,
         before: Option<i128>,
         enumerator: &EnumeratorAt,
     ) -> Option<i128>
         ensures { OnNumbers self.now (λ _ known.
-            result ≡ number_of (seen_by sights.now) known before (view_enumerator_at enumerator.now)) }
+            result ≡ enumerator_number (seen_by sights.now) known before
+            (view_enumerator_at enumerator.now)) }
     {
         match &enumerator.enumerator.value {
             Some(value) => self.number_by(sights, enumerator.word, value),

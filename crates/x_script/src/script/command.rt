@@ -4,7 +4,7 @@ ghost use Rattle.std.specs.Prelude.{MatchOption, SomeIff, nat_lt, option_map};
 ghost use Rattle.std.specs.Char.{is_ascii_hexdigit, is_ascii_digit, digit_value};
 ghost use Rattle.std.specs.List.{list_all};
 ghost use Rattle.std.specs.Str.Parse.{digits_value};
-ghost use Rattle.x_script.specs.Commands.{edit_by, command_of, words_of, one_word, edit_of};
+ghost use Rattle.x_script.specs.Commands.{edit_by, command_of, words_of, one_word, edit_line};
 ghost use Rattle.x_lines.specs.Numbers.{is_number};
 ghost use Rattle.x_script.specs.Commands.{is_hex, bytes_of, asked_if, clashes_asked, dump_by, dump_asked};
 ghost use Rattle.x_script.specs.Commands.{explain_asked};
@@ -207,7 +207,7 @@ fn one_word(line: &[u8]) -> Command
 
 /// The edit between these numbers, if they are numbers.
 fn edit(start: &[u8], end: &[u8], insert: Vec<u8>) -> Command
-    ensures { result ≡ edit_of start.now end.now insert.items }
+    ensures { result ≡ edit_line start.now end.now insert.items }
 {
     match (number(start), number(end)) {
         (Some(start), Some(end)) => Command::Edit {

@@ -5,7 +5,7 @@ ghost use Rattle.x_schema.specs.Choices.{name_for};
 ghost use Rattle.x_schema.specs.Schema.{Schema};
 ghost use Rattle.x_schema.specs.Sound.{AreSoundEnumerators, is_legal};
 ghost use Rattle.x_value.specs.Layouts.{body_leaf, number_size, enumerator, discriminant_leaf};
-ghost use Rattle.x_value.specs.Entries.{leaf_of, body_at, IsKept};
+ghost use Rattle.x_value.specs.Entries.{leaf_of, body_at, IsKeptLeaf};
 ghost use Rattle.x_value.specs.Work.{IsNamedForm};
 
 use super::compact_node::CompactLeaf;
@@ -34,7 +34,7 @@ pub(crate) fn compact_body(form: &Form, body: &[u8], len: u32, at: usize) -> Com
     requires { number_size form.now ≤ length body.now }
     ensures shown { (s : Schema) (m : List ℕ) → body_at m at len ≡ body.now
         → leaf_of s m result ≡ body_leaf form.now body.now }
-    ensures named { (n : ℕ) → IsKept n result }
+    ensures named { (n : ℕ) → IsKeptLeaf n result }
 {
     match form {
         Form::Void => CompactLeaf::Void,
@@ -51,7 +51,7 @@ pub(crate) fn compact_body(form: &Form, body: &[u8], len: u32, at: usize) -> Com
 pub(crate) fn compact_enumerator(names: &Enumerators, word: u32) -> CompactLeaf
     requires { IsTrue (is_some (name_for names.now word)) }
     ensures shown { (s : Schema) (m : List ℕ) → leaf_of s m result ≡ enumerator s names.now word }
-    ensures named { (n : ℕ) → AreSoundEnumerators n names.now → IsKept n result }
+    ensures named { (n : ℕ) → AreSoundEnumerators n names.now → IsKeptLeaf n result }
 {
     match names.name(word) {
         Some(name) => CompactLeaf::Enumerator(name, word.cast_signed()),
@@ -63,7 +63,7 @@ pub(crate) fn compact_enumerator(names: &Enumerators, word: u32) -> CompactLeaf
 pub(crate) fn compact_discriminant(form: &Form, word: u32) -> CompactLeaf
     requires { IsTrue (is_legal form.now word) }
     ensures shown { (s : Schema) (m : List ℕ) → leaf_of s m result ≡ discriminant_leaf s form.now word }
-    ensures named { (n : ℕ) → IsNamedForm n form.now → IsKept n result }
+    ensures named { (n : ℕ) → IsNamedForm n form.now → IsKeptLeaf n result }
 {
     match form {
         Form::Bool => CompactLeaf::Truth(word == 1),

@@ -1,7 +1,7 @@
 //! The nodes of a value as one list.
 ghost use Rattle.std.specs.Prelude.{◌≡◌, ◌<◌, List, length, map, option_map, slice_get};
 ghost use Rattle.std.specs.Iterator.{YieldsFirstBy, item_count};
-ghost use Rattle.x_value.specs.Entries.{label_of, leaf_of, node_of, nodes_of, body_at, IsCalled, IsKept};
+ghost use Rattle.x_value.specs.Entries.{label_of, leaf_of, node_of, nodes_of, body_at, IsCalled, IsKeptLeaf};
 ghost use Rattle.x_value.specs.Entries.{AreNamed};
 ghost use Rattle.x_value.specs.NodeList.{shown_label, shown_leaf, shown_node};
 
@@ -96,7 +96,7 @@ fn label(schema: &Schema, label: CompactLabel) -> Label<'_>
 
 #[inline(always)]
 fn leaf<'a>(schema: &'a Schema, message: &'a [u8], leaf: CompactLeaf) -> Leaf<'a>
-    requires { IsKept (length schema.now.names) leaf }
+    requires { IsKeptLeaf (length schema.now.names) leaf }
     ensures { shown_leaf result ≡ leaf_of schema.now message.now leaf }
 {
     match leaf {
@@ -118,7 +118,7 @@ fn leaf<'a>(schema: &'a Schema, message: &'a [u8], leaf: CompactLeaf) -> Leaf<'a
 #[inline(always)]
 fn node<'a>(schema: &'a Schema, message: &'a [u8], entry: CompactNode) -> Node<'a>
     requires label { IsCalled (length schema.now.names) entry.label }
-    requires leaf { IsKept (length schema.now.names) entry.leaf }
+    requires leaf { IsKeptLeaf (length schema.now.names) entry.leaf }
     ensures { shown_node result ≡ node_of schema.now message.now entry }
 {
     Node {

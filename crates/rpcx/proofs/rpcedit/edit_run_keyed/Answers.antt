@@ -51,7 +51,8 @@ returns-in_default-clause-failed g c e =
 pub returns-in-Err-clause-failed : goal.returns-in-Err-clause-failed
 returns-in-Err-clause-failed g c e =
     let fault = c.in-Err.ensures in
-    unopened (not_opened FollowedText c.args.how.now (codes "rpcedit") c.args.args.now.file.now c.args.bytes.now
+    unopened (not_opened FollowedText c.args.how.now (codes "rpcedit") c.args.args.now.file.now
+    c.args.bytes.now
     (g.E.Sink.state c.args.err.now) (g.E.Sink.state c.tell_unopened.new.err)
     c.in-Err.fault fault.too_large fault.large fault.in_range c.tell_unopened.ensures)
     (record { unread = refl; unwritten = refl })

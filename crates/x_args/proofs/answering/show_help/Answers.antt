@@ -7,12 +7,17 @@ use Rattle.x_args.proofs.answering.show_help.Goals as goal
 pub returns-clause-shown : goal.returns-clause-shown
 returns-clause-shown g c =
     let start = g.O.Sink.state c.args.out.now in
-    let none : Writes start [] c.new-pen.result start = subst (λ (p : Inked). Writes start [] p start) (sym c.new-pen.ensures) (writes_none start) in
+    let none : Writes start [] c.new-pen.result start =
+    subst (λ (p : Inked). Writes start [] p start) (sym c.new-pen.ensures) (writes_none start) in
     let one = c.add.ensures.goes_on start [] none in
     let two = c.add-2.ensures.goes_on start (codes "usage: ") one in
     let three = c.add-3.ensures.goes_on start (codes "usage: " ++ c.as_bytes.result.now) two in
-    let four = c.add-4.ensures.goes_on start (codes "usage: " ++ c.as_bytes.result.now ++ codes "\n\n") three in
+    let four = c.add-4.ensures.goes_on start
+    (codes "usage: " ++ c.as_bytes.result.now ++ codes "\n\n") three in
     let whole = codes "usage: " ++ c.as_bytes.result.now ++ codes "\n\n" ++ c.as_bytes-2.result.now in
-    let is : whole ≡ help_text c.args.manual.now = λ i. codes "usage: " ++ c.as_bytes.ensures.value i ++ codes "\n\n" ++ c.as_bytes-2.ensures.value i in
-    subst (λ t. IsShown c.args.manual.now.name.now t (g.O.Outlet.is_closed c.end_showing.new.out) start (g.O.Sink.state c.end_showing.new.out) (g.E.Sink.state c.args.err.now)
-    (g.E.Sink.state c.end_showing.new.err) c.end_showing.result) is (c.end_showing.ensures.shown start whole four)
+    let is : whole ≡ help_text c.args.manual.now =
+    λ i. codes "usage: " ++ c.as_bytes.ensures.value i ++ codes "\n\n" ++ c.as_bytes-2.ensures.value i in
+    subst (λ t. IsShown c.args.manual.now.name.now t (g.O.Outlet.is_closed c.end_showing.new.out) start
+    (g.O.Sink.state c.end_showing.new.out) (g.E.Sink.state c.args.err.now)
+    (g.E.Sink.state c.end_showing.new.err) c.end_showing.result) is
+    (c.end_showing.ensures.shown start whole four)

@@ -8,7 +8,8 @@ use Rattle.x_args.proofs.Commands.{source_is}
 use Rattle.x_args.proofs.arguments.is_given.Goals as goal
 
 -- the comparison, by any equality that tells the two sources apart
-compares : (equals : ValueSource → ValueSource → Bool) → equals CommandLine CommandLine ≡ true → equals DefaultValue CommandLine ≡ false
+compares : (equals : ValueSource → ValueSource → Bool) → equals CommandLine CommandLine ≡ true
+    → equals DefaultValue CommandLine ≡ false
     → (source : Option ValueSource) → option_eq equals source (Some CommandLine) ≡ is_command_line source
 compares equals same other None = refl
 compares equals same other (Some CommandLine) = same

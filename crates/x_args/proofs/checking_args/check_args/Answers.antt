@@ -1,11 +1,13 @@
-use Rattle.std.proofs.Common.{◌≡◌, ◌∙◌, ◌<◌, Bool, true, false, refl, ap, sym, subst, map, codes, inl, inr, Some}
+use Rattle.std.proofs.Common.{◌≡◌, ◌∙◌, ◌<◌, Bool, true, false, refl, ap, sym, subst, map, codes, inl, inr}
+use Rattle.std.proofs.Common.{Some}
 use Rattle.std.specs.Prelude.{option_map}
 use Rattle.std.specs.List.{list_any}
 use Rattle.std.proofs.lemmas.List.{length-map}
 use Rattle.clap.specs.Built.{BuildsOrBreaks}
 use Rattle.clap.specs.Facts.{args_of}
 use Rattle.clap.specs.Walk.{rule_of}
-use Rattle.clap.specs.Words.{App, app_of, built, found_of, has_subcommand, is_buildable, is_broken, is_simple_and_free}
+use Rattle.clap.specs.Words.{App, app_of, built, found_of, has_subcommand, is_buildable, is_broken}
+use Rattle.clap.specs.Words.{is_simple_and_free}
 use Rattle.clap.specs.declared.builder.command.Command.{Command}
 use Rattle.clap.proofs.OnLiterals.{clap_on_literals}
 use Rattle.x_args.specs.Args.{check_app, is_in_words, IsBeforeArgs}
@@ -30,7 +32,8 @@ unfolding check_app clap_on_literals
 after = refl
 
 -- FILE is never without a value, whether or not the command is built
-never_lacks : (old new : Command) → app_of old ≡ check_app → BuildsOrBreaks old new → (is_broken new ≡ true → ⊥)
+never_lacks : (old new : Command) → app_of old ≡ check_app → BuildsOrBreaks old new
+    → (is_broken new ≡ true → ⊥)
     → list_any (may_lack (codes "file")) (map rule_of (args_of new)) ≡ false
 never_lacks old new is (inl broken) whole = absurd (whole broken)
 never_lacks old new is (inr made) whole = elim made.2 [
@@ -43,8 +46,10 @@ never_lacks old new is (inr made) whole = elim made.2 [
 
 pub returns-in_err-matches-clause-refuses : goal.returns-in_err-matches-clause-refuses
 returns-in_err-matches-clause-refuses g c =
-    fails_again _ check_app (map g.S.AsStr.text c.args.words.now) c.from_residual-in_err-matches.result c.in_err-matches.field-0.0
-    c.in_ok-command.ensures.app is_free c.in_err-matches.ensures.kinds c.from_residual-in_err-matches.ensures.1
+    fails_again _ check_app (map g.S.AsStr.text c.args.words.now) c.from_residual-in_err-matches.result
+    c.in_err-matches.field-0.0
+    c.in_ok-command.ensures.app is_free c.in_err-matches.ensures.kinds
+    c.from_residual-in_err-matches.ensures.1
 
 pub returns-clause-reads : goal.returns-clause-reads
 returns-clause-reads g c =
@@ -52,12 +57,16 @@ returns-clause-reads g c =
     let new = c.try_get_matches_from_mut.new.self in
     let found = found_of c.in_ok-matches.matches in
     let ok = c.in_ok-matches.ensures.ok in
-    let rows = rows_are _ check_app (map g.S.AsStr.text c.args.words.now) c.in_ok-matches.matches c.in_ok-command.ensures.app is_free ok.2 in
+    let rows = rows_are _ check_app (map g.S.AsStr.text c.args.words.now) c.in_ok-matches.matches
+    c.in_ok-command.ensures.app is_free ok.2 in
     let copied = c.in_ok-to_vec.ensures.items_if_clones_equal (λ x y same. same) in
     let known = c.in_ok-command.ensures.files in
-    let read = ap (λ items. Some (map (λ s. s.now) items)) copied ∙ ap (option_map (λ s. map (λ v. v.now) s.now)) (sym c.unwrap-files.ensures) ∙ c.get_strs.ensures in
-    let lacks = never_lacks old new c.in_ok-command.ensures.app c.in_ok-matches.ensures.after (λ broken. c.in_ok-matches.ensures.fails broken) in
-    let some = has_values new found (has_subcommand c.in_ok-matches.matches) (codes "file") (map (λ s. s.now) c.in_ok-to_vec.field-0.items)
+    let read = ap (λ items. Some (map (λ s. s.now) items)) copied
+    ∙ ap (option_map (λ s. map (λ v. v.now) s.now)) (sym c.unwrap-files.ensures) ∙ c.get_strs.ensures in
+    let lacks = never_lacks old new c.in_ok-command.ensures.app c.in_ok-matches.ensures.after
+    (λ broken. c.in_ok-matches.ensures.fails broken) in
+    let some = has_values new found (has_subcommand c.in_ok-matches.matches) (codes "file")
+    (map (λ s. s.now) c.in_ok-to_vec.field-0.items)
     (ok.1 (ok.0.globals ∙ known.local)) (ok.0.plain known.plain).1 (λ e. absurd (cc)) lacks (sym read) in
     record {
       explains = c.is_given.ensures ∙ ap (is_in_words (codes "explain")) rows;
@@ -70,4 +79,5 @@ returns-clause-reads g c =
 
 pub returns-clause-refuses : goal.returns-clause-refuses
 returns-clause-refuses g c =
-    none_fails _ check_app (map g.S.AsStr.text c.args.words.now) c.in_ok-command.ensures.app is_free c.in_ok-matches.ensures.kinds
+    none_fails _ check_app (map g.S.AsStr.text c.args.words.now) c.in_ok-command.ensures.app is_free
+    c.in_ok-matches.ensures.kinds

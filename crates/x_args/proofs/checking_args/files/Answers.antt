@@ -6,4 +6,5 @@ pub returns-clause-rule : goal.returns-clause-rule
 returns-clause-rule c = search rules
 
 pub returns-clause-fits : goal.returns-clause-fits
-returns-clause-fits c = fits_chain c.action.result (codes "file") (search rules) (search rules) (search rules) refl
+returns-clause-fits c = fits_chain c.action.result (codes "file") (search rules) (search rules)
+    (search rules) refl

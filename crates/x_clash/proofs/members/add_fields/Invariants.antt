@@ -10,4 +10,5 @@ abbrev pub invariant-loop-declaration : goal.invariant-loop-declaration
 invariant-loop-declaration l =
     view_all l.list.items
     ++ struct_names (map view_name_at l.names) (view_declarations (drop l.declaration-index l.declarations))
-    ≡ view_all l.fn.list.items ++ struct_names (map view_name_at l.initial.names) (view_declarations l.declarations)
+    ≡ view_all l.fn.list.items ++ struct_names (map view_name_at l.initial.names)
+    (view_declarations l.declarations)

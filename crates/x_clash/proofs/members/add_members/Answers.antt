@@ -18,7 +18,8 @@ returns-in-Struct c =
     ap view_body c.in-Struct.is ∙ struct_view c.in-Struct.declarations in
     on_ok_weaker c.add_fields.result
     (λ last filled. last
-    ∙ ap (λ ns. old ++ members_in around body.named ns (Struct (view_declarations c.in-Struct.declarations.items)))
+    ∙ ap (λ ns. old ++ members_in around body.named ns
+    (Struct (view_declarations c.in-Struct.declarations.items)))
     filled.fields
     ∙ ap (λ b. old ++ members_in around body.named (fields_of (view_body_at body)) b) (sym is))
     (rw c.deref-in-Struct.ensures.value at (rw c.deref.ensures.value at c.add_fields.ensures))

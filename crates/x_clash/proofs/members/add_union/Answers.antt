@@ -20,7 +20,8 @@ returns c =
     let three = view_all c.add_variant.new.list.items in
     let x = field_names ns d in
     let y = arm_names (fields_after ns d) (view_arms u.arms.items) (view_default u.default) in
-    let z = variant_names c.args.around.now c.args.word ns (view_arms u.arms.items) (view_default u.default) in
+    let z = variant_names c.args.around.now c.args.word ns (view_arms u.arms.items)
+    (view_default u.default) in
     let arms : two ≡ one ++ y =
     rw c.deref.ensures.value at (rw c.fields_after-left.ensures at c.in_ok-add_arms.ensures) in
     on_ok_weaker c.add_variant.result

@@ -11,5 +11,6 @@ use Rattle.x_clash.proofs.search.clashes.Given as goal
 abbrev pub invariant-loop-item : goal.invariant-loop-item
 invariant-loop-item l = AreShort (map tree_at l.definitions) → (things : List Thing)
     × HasFirsts l.table.entries things
-    × ((rest : List Clash) → AreClashes (taken_in l.taken) l.item things (map tree_at (drop l.item l.definitions)) rest
+    × ((rest : List Clash)
+    → AreClashes (taken_in l.taken) l.item things (map tree_at (drop l.item l.definitions)) rest
     → AreClashes (taken_in l.taken) 0 [] (map tree_at l.definitions) (l.found.items ++ rest))

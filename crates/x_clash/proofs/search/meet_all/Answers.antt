@@ -1,4 +1,5 @@
-use Rattle.std.proofs.Common.{◌≡◌, List, [], ◌∷◌, ◌++◌, map, sym, ap, subst, ◌∙◌, append_assoc, length, refl, arith}
+use Rattle.std.proofs.Common.{◌≡◌, List, [], ◌∷◌, ◌++◌, map, sym, ap, subst, ◌∙◌, append_assoc, length, refl}
+use Rattle.std.proofs.Common.{arith}
 use Rattle.std.proofs.lemmas.List.{append-nil}
 use Rattle.x_taken.specs.TakenNames.{taken_in}
 use Rattle.x_clash.specs.Clashes.{Thing}
@@ -19,11 +20,13 @@ loop-given-preserved c =
       split = c.loop-given.invariant.split ∙ ap (λ l. so_far ++ l) c.in-Some.ensures.steps.0
           ∙ sym (append_assoc so_far (g ∷ []) left);
       table = λ things has. subst P (things_more item things so_far g)
-          (c.in_ok-meet.ensures.table (things ++ things_by item so_far) (c.loop-given.invariant.table things has));
+          (c.in_ok-meet.ensures.table (things ++ things_by item so_far)
+          (c.loop-given.invariant.table things has));
       found = λ things has. clashes_more (taken_in c.args.taken.now) item things so_far g
           (map view_clash c.args.found.now.items) (map view_clash c.loop-given.found.items)
           (map view_clash c.meet.new.found.items) (c.loop-given.invariant.found things has)
-          (c.in_ok-meet.ensures.found (things ++ things_by item so_far) (c.loop-given.invariant.table things has));
+          (c.in_ok-meet.ensures.found (things ++ things_by item so_far)
+          (c.loop-given.invariant.table things has));
     }
 
 empty : (gs : List Given) → length gs ≡ 0 → gs ≡ []
@@ -35,7 +38,9 @@ all names so_far left split none = sym (append-nil so_far) ∙ ap (λ l. so_far 
 
 pub returns-clause-table : goal.returns-clause-table
 returns-clause-table c things has =
-    let P : List Given → Type 0 = λ gs. HasFirsts c.loop-given.table.entries (things ++ things_by c.args.item gs) in
+    let P : List Given → Type 0 =
+    λ gs. HasFirsts c.loop-given.table.entries (things ++ things_by c.args.item gs) in
     subst P (all c.args.names.items c.loop-given.yielded c.loop-given.given-iterator.rest.items
     c.loop-given.invariant.split (empty c.loop-given.given-iterator.rest.items
-    (sym c.loop-given.given-iterator.rest.ok.0 ∙ c.in-None.ensures.steps.0))) (c.loop-given.invariant.table things has)
+    (sym c.loop-given.given-iterator.rest.ok.0 ∙ c.in-None.ensures.steps.0)))
+    (c.loop-given.invariant.table things has)

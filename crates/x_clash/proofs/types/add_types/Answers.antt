@@ -23,6 +23,7 @@ loop-declared-preserved c =
           (map view_body_at c.bodies_after-bodies.result.now) (view_all c.loop-declared.list.items)
           (view_all c.add_declared.new.list.items) (view_all c.add_typedef.new.list.items)
           (view_all c.add_body.new.list.items) _ is c.in_ok-add_declared.ensures c.in_ok-add_typedef.ensures
-          (c.in_ok-add_body.ensures (c.loop-declared.invariant.filled filled)) c.bodies_after-bodies.ensures.left
+          (c.in_ok-add_body.ensures (c.loop-declared.invariant.filled filled))
+          c.bodies_after-bodies.ensures.left
           (c.loop-declared.invariant.names filled);
     }

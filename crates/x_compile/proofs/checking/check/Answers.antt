@@ -24,8 +24,14 @@ returns-clause-result c definitions short first =
     let outline = c.in_ok-outline.outline in
     let same : outlined outline ≡ d = ap (λ r. view_definition r.now) c.in_ok-outline.ensures.definition in
     let here = λ (fits : IsShort d). c.in_ok-outline.ensures.outline fits in
-    let seen = λ (fits : IsShort d). c.in_ok-views.ensures (here fits) ∙ (λ i. map (view_by_first known find results index) (names_of (same i))) in
-    let checked = λ (fits : IsShort d). subst (λ t. IsOutcome t views c.in_ok-checked.checked) same (subst (λ vs. IsOutcome (outlined outline) (map view_view vs) c.in_ok-checked.checked) c.deref.ensures.value (c.in_ok-checked.ensures.checked (here fits))) in
+    let seen = λ (fits : IsShort d). c.in_ok-views.ensures (here fits)
+    ∙ (λ i. map (view_by_first known find results index) (names_of (same i))) in
+    let checked = λ (fits : IsShort d).
+    subst (λ t. IsOutcome t views c.in_ok-checked.checked) same
+    (subst (λ vs. IsOutcome (outlined outline) (map view_view vs) c.in_ok-checked.checked)
+    c.deref.ensures.value (c.in_ok-checked.ensures.checked (here fits))) in
     let item = kept_definition c.args.item.now in
-    subst (λ (f : CheckResult). IsResult known definitions results index item (Some f.checked)) (sym c.in_ok-new.ensures.ok)
-    (some_result known definitions find results index d item views c.in_ok-checked.checked c.in-Some.ensures short first seen checked)
+    subst (λ (f : CheckResult). IsResult known definitions results index item (Some f.checked))
+    (sym c.in_ok-new.ensures.ok)
+    (some_result known definitions find results index d item views c.in_ok-checked.checked c.in-Some.ensures
+    short first seen checked)

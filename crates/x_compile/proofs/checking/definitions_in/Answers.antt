@@ -8,5 +8,6 @@ use Rattle.x_compile.proofs.checking.definitions_in.Goals as goal
 
 pub returns : goal.returns
 returns c =
-    c.loop-item.invariant ∙ ap (map (λ (k : Bor Content). kept_definition k.now)) (take_all c.loop-item.item-index c.args.items.now (omega arith))
+    c.loop-item.invariant ∙ ap (map (λ (k : Bor Content). kept_definition k.now))
+    (take_all c.loop-item.item-index c.args.items.now (omega arith))
     ∙ map_map kept_definition (λ (k : Bor Content). k.now) c.args.items.now

@@ -7,5 +7,6 @@ use Rattle.x_compile.proofs.checking.names_of.Goals as goal
 
 pub returns : goal.returns
 returns c =
-    subst (λ ds. IfOk c.keyed.result (λ names. AreShort ds → (name : List ℕ) → FirstIs ds name (first_in names name)))
+    subst (λ ds. IfOk c.keyed.result
+    (λ names. AreShort ds → (name : List ℕ) → FirstIs ds name (first_in names name)))
     (ap (map tree_at) c.deref.ensures.value ∙ c.in_ok-definitions_in.ensures) c.keyed.ensures

@@ -13,9 +13,12 @@ use Rattle.x_compile.proofs.checking.views_of.Given as goal
 -- the views of the names so far
 abbrev pub invariant-loop-place : goal.invariant-loop-place
 invariant-loop-place l = map view_view l.views.items
-    ≡ map (view_by_first (known_names l.known) (first_in l.names) (result_at (map found_result l.results)) l.item) (map (λ d. cow_slice_items d.name) (take l.place l.declared-items))
+    ≡ map (view_by_first (known_names l.known) (first_in l.names) (result_at (map found_result l.results))
+    l.item) (map (λ d. cow_slice_items d.name) (take l.place l.declared-items))
 
 abbrev pub invariant-loop-mention : goal.invariant-loop-mention
 invariant-loop-mention l = IsOutline l.outline → map view_view l.views.items
-    ≡ map (view_by_first (known_names l.known) (first_in l.names) (result_at (map found_result l.results)) l.item)
-    (map (λ x. x.name) (declared (outlined l.outline)) ++ map (λ m. m.name.now) (take l.mention-index l.mention-items))
+    ≡ map (view_by_first (known_names l.known) (first_in l.names)
+    (result_at (map found_result l.results)) l.item)
+    (map (λ x. x.name) (declared (outlined l.outline))
+    ++ map (λ m. m.name.now) (take l.mention-index l.mention-items))

@@ -4,7 +4,8 @@ use Rattle.x_compile.proofs.content.byte_count.Goals as goal
 
 pub loop-token-preserved : goal.loop-token-preserved
 loop-token-preserved c =
-    counted_more c.args.tokens.now c.loop-token.token-index _ c.loop-token.count c.saturating_add-count.result _ c.saturating_add-count.ensures c.loop-token-test.true c.loop-token.invariant
+    counted_more c.args.tokens.now c.loop-token.token-index _ c.loop-token.count c.saturating_add-count.result
+    _ c.saturating_add-count.ensures c.loop-token-test.true c.loop-token.invariant
     (let small = c.requires in omega (arith, small))
 
 pub overflow_cast-result : goal.overflow_cast-result

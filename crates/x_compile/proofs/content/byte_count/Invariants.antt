@@ -5,4 +5,5 @@ use Rattle.x_compile.proofs.content.byte_count.Given as goal
 
 -- how many bytes were counted, and those of the tokens that are left
 abbrev pub invariant-loop-token : goal.invariant-loop-token
-invariant-loop-token l = l.count + byte_count (map lexeme (drop l.token-index l.tokens)) ≡ byte_count (map lexeme l.tokens)
+invariant-loop-token l = l.count + byte_count (map lexeme (drop l.token-index l.tokens))
+    ≡ byte_count (map lexeme l.tokens)

@@ -12,20 +12,30 @@ pub keep-requires : goal.keep-requires
 keep-requires c none =
     let before = c.loop-found.results.items in
     let rs = c.pop.new.self.items in
-    let last = last_item c.args.entries.now.items c.args.results.items c.loop-found.entries.items before rs c.in-Some.found c.in-Some.ensures.items c.loop-found.invariant in
+    let last = last_item c.args.entries.now.items c.args.results.items c.loop-found.entries.items before rs
+    c.in-Some.found c.in-Some.ensures.items c.loop-found.invariant in
     let at : c.len.result ≡ length rs = c.len.ensures ∙ c.pop.new.self.ok.0 in
-    let is = last_is c.args.entries.now.items c.args.results.items c.loop-found.entries.items rs c.in-Some.found last c.len.result c.index_mut.result.now at c.index_mut.ensures.value in
-    last_known c.args.entries.now.items c.args.results.items c.loop-found.entries.items rs c.in-Some.found last c.requires
+    let is = last_is c.args.entries.now.items c.args.results.items c.loop-found.entries.items rs
+    c.in-Some.found last c.len.result c.index_mut.result.now at c.index_mut.ensures.value in
+    last_known c.args.entries.now.items c.args.results.items c.loop-found.entries.items rs c.in-Some.found
+    last c.requires
     (sym (ap (λ (e : ItemEntry Content). kept_definition e.kept) is) ∙ none)
 
 pub loop-found-preserved : goal.loop-found-preserved
 loop-found-preserved c =
     let before = c.loop-found.results.items in
     let rs = c.pop.new.self.items in
-    let last = last_item c.args.entries.now.items c.args.results.items c.loop-found.entries.items before rs c.in-Some.found c.in-Some.ensures.items c.loop-found.invariant in
+    let last = last_item c.args.entries.now.items c.args.results.items c.loop-found.entries.items before rs
+    c.in-Some.found c.in-Some.ensures.items c.loop-found.invariant in
     let at : c.len.result ≡ length rs = c.len.ensures ∙ c.pop.new.self.ok.0 in
-    let is = last_is c.args.entries.now.items c.args.results.items c.loop-found.entries.items rs c.in-Some.found last c.len.result c.index_mut.result.now at c.index_mut.ensures.value in
-    let f : ItemEntry Content = record { tokens = c.index_mut.result.now.tokens; bytes = c.index_mut.result.now.bytes; kept = c.keep.new.self } in
+    let is = last_is c.args.entries.now.items c.args.results.items c.loop-found.entries.items rs
+    c.in-Some.found last c.len.result c.index_mut.result.now at c.index_mut.ensures.value in
+    let f : ItemEntry Content =
+    record {
+      tokens = c.index_mut.result.now.tokens;
+      bytes = c.index_mut.result.now.bytes;
+      kept = c.keep.new.self;
+    } in
     let now : IsWith c.index_mut.result.now c.in-Some.found f = record {
       tokens = refl;
       bytes = refl;
@@ -35,5 +45,6 @@ loop-found-preserved c =
       pieces = c.keep.ensures.pieces;
       marked = c.keep.ensures.marked;
     } in
-    kept_more c.args.entries.now.items c.args.results.items c.loop-found.entries.items _ rs c.in-Some.found c.len.result f last at refl
+    kept_more c.args.entries.now.items c.args.results.items c.loop-found.entries.items _ rs c.in-Some.found
+    c.len.result f last at refl
     (subst (λ e. IsWith e c.in-Some.found f) is now)

@@ -5,4 +5,5 @@ use Rattle.x_compile.proofs.lines.lines_of.Given as goal
 
 -- the lines so far and those that are left
 abbrev pub invariant-loop-token : goal.invariant-loop-token
-invariant-loop-token l = l.lines.items ++ lines_of (map lexeme (drop l.token-index l.tokens)) ≡ lines_of (map lexeme l.tokens)
+invariant-loop-token l = l.lines.items ++ lines_of (map lexeme (drop l.token-index l.tokens))
+    ≡ lines_of (map lexeme l.tokens)

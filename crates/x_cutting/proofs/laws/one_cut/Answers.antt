@@ -7,4 +7,5 @@ pub returns-clause-only : goal.returns-clause-only
 returns-clause-only c = same_cut
 
 pub returns-clause-some : goal.returns-clause-some
-returns-clause-some c tokens = (counts_from 0 0 (roles_of tokens), counts_cut tokens (counts_from 0 0 (roles_of tokens)) refl)
+returns-clause-some c tokens =
+    (counts_from 0 0 (roles_of tokens), counts_cut tokens (counts_from 0 0 (roles_of tokens)) refl)

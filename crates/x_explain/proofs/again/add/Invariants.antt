@@ -10,8 +10,11 @@ use Rattle.x_explain.proofs.again.add.Given as goal
 abbrev pub invariant-loop-name : goal.invariant-loop-name
 invariant-loop-name l = record {
   left : l.glossary.declared.items ≡ take (length l.glossary.declared.items) l.fn.glossary.declared.items;
-  has : (text : List ℕ) (items : List Item) → IsTableOf text items l.declared → (start : ℕ) → entry_at l.table.entries start
-      ≡ option_or (name_at (again_among items l.item (map view_name l.glossary.declared.items) (map view_name (drop (length l.glossary.declared.items) l.fn.glossary.declared.items))) start) (entry_at l.fn.table.entries start);
+  has : (text : List ℕ) (items : List Item) → IsTableOf text items l.declared → (start : ℕ)
+      → entry_at l.table.entries start
+      ≡ option_or (name_at (again_among items l.item (map view_name l.glossary.declared.items)
+      (map view_name (drop (length l.glossary.declared.items) l.fn.glossary.declared.items))) start)
+      (entry_at l.fn.table.entries start);
 }
 
 abbrev pub decreases-loop-name : goal.decreases-loop-name

@@ -9,11 +9,13 @@ pub returns-then-last-word : goal.returns-then-last-word
 returns-then-last-word c =
     let last = c.in-Some.last.now in
     sym (ap (λ b. b && not last.lifted) (eq-eqb last.word c.args.word c.if-last-word.true))
-    ∙ sym (ends_with c.args.word c.args.names.now last (sym c.last.ensures.value ∙ ap option_copied c.in-Some.is))
+    ∙ sym (ends_with c.args.word c.args.names.now last
+    (sym c.last.ensures.value ∙ ap option_copied c.in-Some.is))
 
 pub returns-else-last-word : goal.returns-else-last-word
 returns-else-last-word c =
     let last = c.in-Some.last.now in
     let other : nat_eq last.word c.args.word ≡ false = grind (arith, c.if-last-word.false) in
     other ∙ sym (ap (λ b. b && not last.lifted) other)
-    ∙ sym (ends_with c.args.word c.args.names.now last (sym c.last.ensures.value ∙ ap option_copied c.in-Some.is))
+    ∙ sym (ends_with c.args.word c.args.names.now last
+    (sym c.last.ensures.value ∙ ap option_copied c.in-Some.is))

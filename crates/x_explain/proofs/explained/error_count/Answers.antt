@@ -15,7 +15,8 @@ loop-place-init c =
     let text = c.args.session.now.text in
     let places = c.into_iter-place-iterator.result in
     let same = (one_compilation c.args.session.now.known text count.0 all.0 count.1 all.1 count.2 all.2).1 in
-    let many : c.fault_count-errors.result ≡ length places = count.3 ∙ places_many text 0 count.1 ∙ ap (λ items. length (places_of items)) same
+    let many : c.fault_count-errors.result ≡ length places = count.3 ∙ places_many text 0 count.1
+    ∙ ap (λ items. length (places_of items)) same
     ∙ ap length (sym all.3) ∙ ap length (sym c.into_iter-place-iterator.ensures.into_iter_gives) in
     ap (λ n. n + notes_at places) many
 

@@ -4,4 +4,5 @@ use Rattle.x_explain.proofs.explained.error_count.Given as goal
 
 -- of the places that are left the notes are still counted
 abbrev pub invariant-loop-place : goal.invariant-loop-place
-invariant-loop-place l = l.errors + notes_at l.initial.place-iterator ≡ length l.initial.place-iterator + notes_at l.place-iterator
+invariant-loop-place l = l.errors + notes_at l.initial.place-iterator
+    ≡ length l.initial.place-iterator + notes_at l.place-iterator

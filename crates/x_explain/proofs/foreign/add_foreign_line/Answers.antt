@@ -7,7 +7,8 @@ pub returns : goal.returns
 returns g c =
     let state = g.S.Sink.state in
     let name = c.args.name.now in
-    six c.args.pen.now c.add_place.new.pen c.add.new.self c.add_painted.new.pen c.add-2.new.self c.add-3.new.self
+    six c.args.pen.now c.add_place.new.pen c.add.new.self c.add_painted.new.pen c.add-2.new.self
+    c.add-3.new.self
     c.add-4.new.self
     (state c.args.sink.now) (state c.add_place.new.sink) (state c.add.new.sink) (state c.add_painted.new.sink)
     (state c.add-2.new.sink) (state c.add-3.new.sink) (state c.add-4.new.sink)

@@ -15,7 +15,8 @@ pub loop-name-preserved : goal.loop-name-preserved
 loop-name-preserved g c q end h =
     c.loop-name.invariant q end
     (line_more c.args.coloured c.args.file.now c.args.names.now c.loop-name.name-index _ c.loop-name.pen
-    c.add_foreign_line.new.pen q (g.S.Sink.state c.loop-name.sink) (g.S.Sink.state c.add_foreign_line.new.sink)
+    c.add_foreign_line.new.pen q (g.S.Sink.state c.loop-name.sink)
+    (g.S.Sink.state c.add_foreign_line.new.sink)
     end c.loop-name-test.true c.add_foreign_line.ensures h)
 
 pub returns : goal.returns

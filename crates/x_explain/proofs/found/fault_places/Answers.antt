@@ -5,5 +5,6 @@ pub returns : goal.returns
 returns c =
     let h = c.fault_places-place-items.ensures in
     let places = c.loop-place.places.items in
-    let all = sym (append-nil places) ∙ ap (λ l. places ++ l) (sym c.in-None.ensures.steps.0) ∙ c.loop-place.invariant ∙ c.into_iter-place-iterator.ensures.into_iter_gives in
+    let all = sym (append-nil places) ∙ ap (λ l. places ++ l) (sym c.in-None.ensures.steps.0)
+    ∙ c.loop-place.invariant ∙ c.into_iter-place-iterator.ensures.into_iter_gives in
     (h.0, h.1, h.2, all ∙ h.3)

@@ -6,7 +6,9 @@ use Rattle.x_explain.proofs.found.found_at.Goals as goal
 
 pub loop-place-preserved : goal.loop-place-preserved
 loop-place-preserved c =
-    found_step c.args.text.now c.args.places.now c.loop-place.place-index _ c.loop-place.found.items c.push.new.self.items c.token_end.result c.loop-place-test.true c.loop-place.invariant c.token_end.ensures c.in_ok-push.ensures.items
+    found_step c.args.text.now c.args.places.now c.loop-place.place-index _ c.loop-place.found.items
+    c.push.new.self.items c.token_end.result c.loop-place-test.true c.loop-place.invariant c.token_end.ensures
+    c.in_ok-push.ensures.items
 
 pub returns : goal.returns
 returns c =

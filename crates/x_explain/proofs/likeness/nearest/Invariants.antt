@@ -6,4 +6,5 @@ use Rattle.x_explain.proofs.likeness.nearest.Given as goal
 
 -- the nearest of the names from this one on
 abbrev pub invariant-loop-index : goal.invariant-loop-index
-invariant-loop-index l = option_map (λ n. n.now) l.found ≡ nearest l.word.bytes.now (map cow_slice_items (drop l.index l.names))
+invariant-loop-index l = option_map (λ n. n.now) l.found
+    ≡ nearest l.word.bytes.now (map cow_slice_items (drop l.index l.names))

@@ -5,8 +5,12 @@ use Rattle.x_explain.proofs.lines.add_suggestion_line.Goals as goal
 
 pub returns : goal.returns
 returns g c =
-    six c.args.pen.now c.add_gutter.new.pen c.add.new.self c.add_painted.new.pen c.add-2.new.self c.add_meant.new.pen c.add-3.new.self
-    (g.S.Sink.state c.args.sink.now) (g.S.Sink.state c.add_gutter.new.sink) (g.S.Sink.state c.add.new.sink) (g.S.Sink.state c.add_painted.new.sink)
+    six c.args.pen.now c.add_gutter.new.pen c.add.new.self c.add_painted.new.pen c.add-2.new.self
+    c.add_meant.new.pen c.add-3.new.self
+    (g.S.Sink.state c.args.sink.now) (g.S.Sink.state c.add_gutter.new.sink) (g.S.Sink.state c.add.new.sink)
+    (g.S.Sink.state c.add_painted.new.sink)
     (g.S.Sink.state c.add-2.new.sink) (g.S.Sink.state c.add_meant.new.sink) (g.S.Sink.state c.add-3.new.sink)
-    (gutter c.args.line) (codes " | ") (painted c.args.coloured cyan (codes "help:")) (codes " ") (meant c.args.name.now) (codes "\n")
-    c.add_gutter.ensures c.add.ensures c.add_painted.ensures c.add-2.ensures c.add_meant.ensures c.add-3.ensures
+    (gutter c.args.line) (codes " | ") (painted c.args.coloured cyan (codes "help:")) (codes " ")
+    (meant c.args.name.now) (codes "\n")
+    c.add_gutter.ensures c.add.ensures c.add_painted.ensures c.add-2.ensures c.add_meant.ensures
+    c.add-3.ensures

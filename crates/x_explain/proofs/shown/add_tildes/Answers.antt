@@ -12,12 +12,17 @@ loop-byte-preserved g c =
     let line = tildes c.args.is_utf8 in
     let start = g.S.Sink.state c.args.sink.now in
     let mid = g.S.Sink.state c.loop-byte.sink in
-    lists_more line all (drop (i + 1) all) (get_or all i 0) c.args.pen.now c.loop-byte.pen c.add.new.self start mid (g.S.Sink.state c.add.new.sink)
-    (subst (λ bs. HasListed ℕ line all bs c.args.pen.now start c.loop-byte.pen mid) (drop_one all i 0 c.loop-byte-test.true) c.loop-byte.invariant)
-    (subst (λ t. Adds c.loop-byte.pen mid c.add.new.self (g.S.Sink.state c.add.new.sink) t) (c.first_of.ensures ∙ ap (λ n. take n (codes "~~~~")) c.columns.ensures) c.add.ensures)
+    lists_more line all (drop (i + 1) all) (get_or all i 0) c.args.pen.now c.loop-byte.pen c.add.new.self
+    start mid (g.S.Sink.state c.add.new.sink)
+    (subst (λ bs. HasListed ℕ line all bs c.args.pen.now start c.loop-byte.pen mid)
+    (drop_one all i 0 c.loop-byte-test.true) c.loop-byte.invariant)
+    (subst (λ t. Adds c.loop-byte.pen mid c.add.new.self (g.S.Sink.state c.add.new.sink) t)
+    (c.first_of.ensures ∙ ap (λ n. take n (codes "~~~~")) c.columns.ensures) c.add.ensures)
 
 pub returns : goal.returns
 returns g c =
     let all = c.args.bytes.now in
-    lists_all (tildes c.args.is_utf8) all (drop c.loop-byte.byte-index all) c.args.pen.now c.loop-byte.pen (g.S.Sink.state c.args.sink.now) (g.S.Sink.state c.loop-byte.sink)
-    (drop_none all c.loop-byte.byte-index (let over = c.loop-byte-test.false in omega (arith, over))) c.loop-byte.invariant
+    lists_all (tildes c.args.is_utf8) all (drop c.loop-byte.byte-index all) c.args.pen.now c.loop-byte.pen
+    (g.S.Sink.state c.args.sink.now) (g.S.Sink.state c.loop-byte.sink)
+    (drop_none all c.loop-byte.byte-index (let over = c.loop-byte-test.false in omega (arith, over)))
+    c.loop-byte.invariant

@@ -6,4 +6,5 @@ use Rattle.x_explain.proofs.suggestions.sought.Given as goal
 -- the places so far, and those that are left
 abbrev pub invariant-loop-place : goal.invariant-loop-place
 invariant-loop-place l = (length l.places.items ≤ 16)
-    × (take 16 (l.places.items ++ filter (λ p. is_unknown p.code) l.place-iterator) ≡ sought l.initial.place-iterator)
+    × (take 16 (l.places.items ++ filter (λ p. is_unknown p.code) l.place-iterator)
+    ≡ sought l.initial.place-iterator)

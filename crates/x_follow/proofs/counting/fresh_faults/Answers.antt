@@ -8,5 +8,7 @@ loop-index-preserved c =
     let es = c.args.patch.now.fresh in
     let lt = c.loop-index-test.true in
     let end = c.len-index-end.ensures in
-    own_next es c.loop-index.index c.loop-index.count c.in_ok-count.count (omega (arith, lt, end)) c.loop-index.invariant
-    (c.in_ok-count.ensures ∙ ap (λ n. c.loop-index.count + n) (c.faults_of.ensures ∙ ap entry_faults c.get.ensures))
+    own_next es c.loop-index.index c.loop-index.count c.in_ok-count.count (omega (arith, lt, end))
+    c.loop-index.invariant
+    (c.in_ok-count.ensures
+    ∙ ap (λ n. c.loop-index.count + n) (c.faults_of.ensures ∙ ap entry_faults c.get.ensures))

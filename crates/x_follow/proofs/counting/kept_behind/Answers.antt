@@ -12,8 +12,10 @@ returns-then-behind-len c =
     let again = c.at-2.ensures in
     let lt = c.if-behind-len.true in
     let many = c.len.ensures in
-    c.kept_of-then-behind-len.ensures ∙ ap (option_map (λ (e : ItemEntry Content). e.kept)) c.get-then-behind-len.ensures
-    ∙ kept_fresh c.args.items.now.list c.args.patch.now c.args.index (c.args.index - c.at-2.result) c.requires.among (omega (arith, not_before, at)) (omega (arith, again)) (omega (arith, lt, many))
+    c.kept_of-then-behind-len.ensures
+    ∙ ap (option_map (λ (e : ItemEntry Content). e.kept)) c.get-then-behind-len.ensures
+    ∙ kept_fresh c.args.items.now.list c.args.patch.now c.args.index (c.args.index - c.at-2.result)
+    c.requires.among (omega (arith, not_before, at)) (omega (arith, again)) (omega (arith, lt, many))
 
 pub returns : goal.returns
 returns c =
@@ -27,4 +29,6 @@ returns c =
     let long = c.len-2.ensures in
     let j = c.at-3.result + c.removed.result + (c.args.index - c.at-2.result - c.len-2.result) in
     c.kept_of-2.ensures ∙ ap (option_map (λ (e : ItemEntry Content). e.kept)) c.get-2.ensures
-    ∙ kept_rear c.args.items.now.list c.args.patch.now c.args.index j c.requires.among (omega (arith, not_before, at, again, le, many)) (omega (arith, not_before, at, again, le, many, third, removed, long))
+    ∙ kept_rear c.args.items.now.list c.args.patch.now c.args.index j c.requires.among
+    (omega (arith, not_before, at, again, le, many))
+    (omega (arith, not_before, at, again, le, many, third, removed, long))

@@ -12,5 +12,7 @@ loop-index-preserved c =
     let at = c.at.ensures in
     let removed = c.removed.ensures in
     let among = c.requires in
-    own_behind es c.args.patch.now.at c.loop-index.index c.loop-index.count c.in_ok-count.count (omega (arith, le, from)) (omega (arith, lt, at, removed, among)) c.loop-index.invariant
-    (c.in_ok-count.ensures ∙ ap (λ n. c.loop-index.count + n) (c.faults_of.ensures ∙ ap entry_faults c.get.ensures))
+    own_behind es c.args.patch.now.at c.loop-index.index c.loop-index.count c.in_ok-count.count
+    (omega (arith, le, from)) (omega (arith, lt, at, removed, among)) c.loop-index.invariant
+    (c.in_ok-count.ensures
+    ∙ ap (λ n. c.loop-index.count + n) (c.faults_of.ensures ∙ ap entry_faults c.get.ensures))

@@ -5,4 +5,5 @@ use Rattle.x_follow.proofs.counting.removed_faults.Given as goal
 
 -- the faults of the items so far that go
 abbrev pub invariant-loop-index : goal.invariant-loop-index
-invariant-loop-index l = l.count ≡ own_faults (take (l.index - l.patch.at) (drop l.patch.at (items.kept l.items.list)))
+invariant-loop-index l =
+    l.count ≡ own_faults (take (l.index - l.patch.at) (drop l.patch.at (items.kept l.items.list)))

@@ -18,7 +18,8 @@ byte_count-requires c =
     let tokens = drop c.args.items.now.start all in
     let walk = c.loop-index.walk in
     let count = c.token_count.result in
-    let part : map lexeme c.deref-in-loop-index.result.now ≡ take count walk = ap (map lexeme) c.deref-in-loop-index.ensures.value ∙ c.in_ok-take_tokens.ensures.part in
+    let part : map lexeme c.deref-in-loop-index.result.now ≡ take count walk =
+    ap (map lexeme) c.deref-in-loop-index.ensures.value ∙ c.in_ok-take_tokens.ensures.part in
     let same = ap byte_count part in
     let taken = bytes_few_taken count walk in
     let at = tokens_before (counts c.args.items.now.fresh) c.loop-index.index in
@@ -42,13 +43,20 @@ loop-index-preserved c =
     let m = length-lexemes_from c.args.text.now 0 us in
     let w = c.requires.within in
     let fits : total (counts c.args.items.now.fresh) ≤ length tokens = omega (arith, l, m, w) in
-    let part : map lexeme c.deref.result.now ≡ take count walk = ap (map lexeme) c.deref.ensures.value ∙ c.in_ok-take_tokens.ensures.part in
+    let part : map lexeme c.deref.result.now ≡ take count walk = ap (map lexeme) c.deref.ensures.value
+    ∙ c.in_ok-take_tokens.ensures.part in
     let counted = c.in_ok-kept.ensures.counted in
     let one = ap (λ (n : Counts). n.parsed) counted in
     let ticks = inv.ticks in
     record {
-      parsed = parsed_next tokens c.args.items.now.fresh c.loop-index.items.fresh c.fill.new.self.fresh walk c.take_tokens.new.walk index count c.byte_count.result k inv.parsed fits c.token_count.ensures c.in_ok-take_tokens.ensures.walk
-          (c.byte_count.ensures ∙ ap byte_count (ap (map lexeme) c.deref-in-loop-index.ensures.value ∙ c.in_ok-take_tokens.ensures.part)) c.in_ok-kept.ensures.marked (subst (λ t. IsParse t (kept_parse k)) part c.in_ok-kept.ensures.parse) (c.in_ok-kept.ensures.lines ∙ ap lines_of part) c.in_ok-kept.ensures.unchecked c.fill.ensures.counts c.fill.ensures.bytes c.fill.ensures.kept;
+      parsed = parsed_next tokens c.args.items.now.fresh c.loop-index.items.fresh c.fill.new.self.fresh walk
+          c.take_tokens.new.walk index count c.byte_count.result k inv.parsed fits c.token_count.ensures
+          c.in_ok-take_tokens.ensures.walk
+          (c.byte_count.ensures ∙ ap byte_count (ap (map lexeme) c.deref-in-loop-index.ensures.value
+          ∙ c.in_ok-take_tokens.ensures.part)) c.in_ok-kept.ensures.marked
+          (subst (λ t. IsParse t (kept_parse k)) part c.in_ok-kept.ensures.parse) (c.in_ok-kept.ensures.lines
+          ∙ ap lines_of part) c.in_ok-kept.ensures.unchecked c.fill.ensures.counts c.fill.ensures.bytes
+          c.fill.ensures.kept;
       others = c.fill.ensures.others ∙ (λ i. record (inv.others i) { fresh = c.fill.new.self.fresh });
       ticks = omega (arith, one, ticks);
       no_others = counted ∙ (λ i. record (inv.no_others i) { parsed = (sym one) i });

@@ -14,6 +14,8 @@ loop-index-preserved c =
     let lt = c.loop-index-test.true in
     let end = c.len-index-end.ensures in
     let o = c.definition_of.result in
-    definitions_next es c.loop-index.index (map tree_at c.loop-index.definitions.items) (map tree_at c.push.new.self.items) (tree_at o) (omega (arith, lt, end)) c.loop-index.invariant
+    definitions_next es c.loop-index.index (map tree_at c.loop-index.definitions.items)
+    (map tree_at c.push.new.self.items) (tree_at o) (omega (arith, lt, end)) c.loop-index.invariant
     (ap (map tree_at) c.in_ok-push.ensures.items ∙ map-append tree_at c.loop-index.definitions.items (o ∷ []))
-    (c.definition_of.ensures ∙ ap (option_and_then (λ (e : ItemEntry Content). kept_definition e.kept)) c.get.ensures)
+    (c.definition_of.ensures
+    ∙ ap (option_and_then (λ (e : ItemEntry Content). kept_definition e.kept)) c.get.ensures)

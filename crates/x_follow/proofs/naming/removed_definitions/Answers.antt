@@ -18,6 +18,10 @@ loop-index-preserved c =
     let removed = c.removed.ensures in
     let among = c.requires in
     let o = c.definition_of.result in
-    definitions_behind es c.args.patch.now.at c.loop-index.index (map tree_at c.loop-index.definitions.items) (map tree_at c.push.new.self.items) (tree_at o) (omega (arith, le, from)) (omega (arith, lt, at, removed, among))
-    c.loop-index.invariant (ap (map tree_at) c.in_ok-push.ensures.items ∙ map-append tree_at c.loop-index.definitions.items (o ∷ []))
-    (c.definition_of.ensures ∙ ap (option_and_then (λ (e : ItemEntry Content). kept_definition e.kept)) c.get.ensures)
+    definitions_behind es c.args.patch.now.at c.loop-index.index (map tree_at c.loop-index.definitions.items)
+    (map tree_at c.push.new.self.items) (tree_at o) (omega (arith, le, from))
+    (omega (arith, lt, at, removed, among))
+    c.loop-index.invariant (ap (map tree_at) c.in_ok-push.ensures.items
+    ∙ map-append tree_at c.loop-index.definitions.items (o ∷ []))
+    (c.definition_of.ensures
+    ∙ ap (option_and_then (λ (e : ItemEntry Content). kept_definition e.kept)) c.get.ensures)

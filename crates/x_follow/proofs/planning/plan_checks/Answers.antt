@@ -8,4 +8,6 @@ use Rattle.x_follow.proofs.planning.plan_checks.Goals as goal
 
 pub check_stale_items-requires-clause-checked : goal.check_stale_items-requires-clause-checked
 check_stale_items-requires-clause-checked c =
-    table_same (known_names c.args.known.now) c.args.items.now c.change_names.new.items c.requires.checked (ap (λ (g : Gapped (ItemEntry Content)). g.list) c.in_ok-names.ensures.entries) c.in_ok-names.ensures.faults c.in_ok-names.ensures.uses
+    table_same (known_names c.args.known.now) c.args.items.now c.change_names.new.items c.requires.checked
+    (ap (λ (g : Gapped (ItemEntry Content)). g.list) c.in_ok-names.ensures.entries)
+    c.in_ok-names.ensures.faults c.in_ok-names.ensures.uses

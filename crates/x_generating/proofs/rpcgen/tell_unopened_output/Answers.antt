@@ -5,4 +5,5 @@ use Rattle.x_generating.proofs.rpcgen.tell_unopened_output.Goals as goal
 
 pub returns-in-NoMemory : goal.returns-in-NoMemory
 returns-in-NoMemory g c =
-    subst (λ f. IsTold (g.E.Sink.state c.args.err.now) (g.E.Sink.state c.tell_of_file.new.err) (output_told c.args.args.now f)) (sym c.in-NoMemory.is) c.tell_of_file.ensures
+    subst (λ f. IsTold (g.E.Sink.state c.args.err.now) (g.E.Sink.state c.tell_of_file.new.err)
+    (output_told c.args.args.now f)) (sym c.in-NoMemory.is) c.tell_of_file.ensures

@@ -9,7 +9,10 @@ use Rattle.x_lex.proofs.relexing.relex.Goals as goal
 pub returns-clause-of_text : goal.returns-clause-of_text
 returns-clause-of_text c =
     let change = change_of c.bytes.result.now c.args.edit.now in
-    let left = c.requires.edited ∙ ap (λ old. edited_by (change_of old c.args.edit.now)) (sym c.bytes.ensures.text) in
+    let left = c.requires.edited
+    ∙ ap (λ old. edited_by (change_of old c.args.edit.now)) (sym c.bytes.ensures.text) in
     let small = subst (λ n. n ≤ MAX_TEXT) (ap length left) c.bytes-2.ensures.small in
-    if_made c.relex_bytes.result (λ p. IsPatch change c.args.tokens.now.list p) (λ p. IsOfText (patched c.args.tokens.now.list p))
-    (λ p h. tokens_fit (edited_by change) (patched c.args.tokens.now.list p) h.tokens small) c.relex_bytes.ensures.patch
+    if_made c.relex_bytes.result (λ p. IsPatch change c.args.tokens.now.list p)
+    (λ p. IsOfText (patched c.args.tokens.now.list p))
+    (λ p h. tokens_fit (edited_by change) (patched c.args.tokens.now.list p) h.tokens small)
+    c.relex_bytes.ensures.patch

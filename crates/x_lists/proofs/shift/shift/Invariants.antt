@@ -6,6 +6,7 @@ invariant-loop-i g l = record {
   entries : l.from.items ++ reverse l.onto.items ≡ l.initial.from.items ++ reverse l.initial.onto.items;
   from : vec_len l.from + l._i ≡ vec_len l.initial.from;
   onto : vec_len l.onto ≡ vec_len l.initial.onto + l._i;
+  counted : l.moves.total ≡ l.initial.moves.total + l._i;
   capacity_from : vec_capacity l.from ≡ vec_capacity l.initial.from;
   capacity_onto : vec_capacity l.initial.onto ≤ vec_capacity l.onto;
 }

@@ -16,16 +16,27 @@ loop-name-preserved c =
     let item = c.name-item.result in
     let rest = drop (c.loop-name.name-index + 1) c.args.declared.now in
     let front : drop c.loop-name.name-index c.args.declared.now ≡ item ∷ rest =
-    drop_more c.args.declared.now c.loop-name.name-index _ c.loop-name-test.true ∙ ap (λ x. x ∷ rest) (sym c.name-item.is) in
-    let more : map lexeme c.add_name.new.found.items ≡ map lexeme c.loop-name.found.items ++ tokens_where test (declared_on words (view_name item)) =
+    drop_more c.args.declared.now c.loop-name.name-index _ c.loop-name-test.true
+    ∙ ap (λ x. x ∷ rest) (sym c.name-item.is) in
+    let more : map lexeme c.add_name.new.found.items
+    ≡ map lexeme c.loop-name.found.items ++ tokens_where test (declared_on words (view_name item)) =
     c.in_ok-add_name.ensures
-    ∙ (λ k. map lexeme c.loop-name.found.items ++ tokens_where test (name_on (slice_get words item.word) (c.as_slice.ensures.value k) (c.of_declared-standing.ensures k))) in
-    found_more (map lexeme c.loop-name.found.items) (map lexeme c.add_name.new.found.items) (tokens_where test (declared_on words (view_name item))) (tokens_where test (flat_map (declared_on words) (map view_name rest)))
-    (tokens_where test (flat_map (declared_on words) (map view_name (drop c.loop-name.name-index c.args.declared.now)))) _ more
-    (where_over test (declared_on words) (view_name item) (map view_name (drop c.loop-name.name-index c.args.declared.now)) (map view_name rest) (ap (map view_name) front)) c.loop-name.invariant
+    ∙ (λ k. map lexeme c.loop-name.found.items
+    ++ tokens_where test (name_on (slice_get words item.word) (c.as_slice.ensures.value k)
+    (c.of_declared-standing.ensures k))) in
+    found_more (map lexeme c.loop-name.found.items) (map lexeme c.add_name.new.found.items)
+    (tokens_where test (declared_on words (view_name item)))
+    (tokens_where test (flat_map (declared_on words) (map view_name rest)))
+    (tokens_where test (flat_map (declared_on words)
+    (map view_name (drop c.loop-name.name-index c.args.declared.now)))) _ more
+    (where_over test (declared_on words) (view_name item)
+    (map view_name (drop c.loop-name.name-index c.args.declared.now)) (map view_name rest)
+    (ap (map view_name) front)) c.loop-name.invariant
 
 pub returns : goal.returns
 returns c =
     sym (append-nil (map lexeme c.loop-name.found.items))
-    ∙ ap (λ l. map lexeme c.loop-name.found.items ++ tokens_where (is_sought c.args.sought) (flat_map (declared_on (map lexeme c.args.words.now)) (map view_name l))) (sym (drop_all _ _ c.loop-name-test.false))
+    ∙ ap (λ l. map lexeme c.loop-name.found.items
+    ++ tokens_where (is_sought c.args.sought) (flat_map (declared_on (map lexeme c.args.words.now))
+    (map view_name l))) (sym (drop_all _ _ c.loop-name-test.false))
     ∙ c.loop-name.invariant

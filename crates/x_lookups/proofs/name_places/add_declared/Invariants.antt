@@ -8,5 +8,7 @@ use Rattle.x_lookups.proofs.name_places.add_declared.Given as goal
 
 abbrev pub invariant-loop-name : goal.invariant-loop-name
 invariant-loop-name l =
-    map lexeme l.found.items ++ tokens_where (is_sought l.sought) (flat_map (declared_on (map lexeme l.words)) (map view_name (drop l.name-index l.declared)))
-    ≡ map lexeme l.fn.found.items ++ tokens_where (is_sought l.sought) (flat_map (declared_on (map lexeme l.words)) (map view_name l.declared))
+    map lexeme l.found.items ++ tokens_where (is_sought l.sought)
+    (flat_map (declared_on (map lexeme l.words)) (map view_name (drop l.name-index l.declared)))
+    ≡ map lexeme l.fn.found.items ++ tokens_where (is_sought l.sought)
+    (flat_map (declared_on (map lexeme l.words)) (map view_name l.declared))

@@ -14,12 +14,19 @@ loop-mention-preserved c =
     let words = map lexeme c.args.words.now in
     let rest = drop (c.loop-mention.mention-index + 1) c.args.mentioned.now in
     let front = drop_more c.args.mentioned.now c.loop-mention.mention-index _ c.loop-mention-test.true in
-    found_more (map lexeme c.loop-mention.found.items) (map lexeme c.add_name.new.found.items) _ (tokens_where test (flat_map (mentioned_on words) (map view_mention rest)))
-    (tokens_where test (flat_map (mentioned_on words) (map view_mention (drop c.loop-mention.mention-index c.args.mentioned.now)))) _ c.in_ok-add_name.ensures
-    (where_over test (mentioned_on words) _ (map view_mention (drop c.loop-mention.mention-index c.args.mentioned.now)) (map view_mention rest) (ap (map view_mention) front)) c.loop-mention.invariant
+    found_more (map lexeme c.loop-mention.found.items) (map lexeme c.add_name.new.found.items) _
+    (tokens_where test (flat_map (mentioned_on words) (map view_mention rest)))
+    (tokens_where test
+    (flat_map (mentioned_on words)
+    (map view_mention (drop c.loop-mention.mention-index c.args.mentioned.now)))) _ c.in_ok-add_name.ensures
+    (where_over test (mentioned_on words) _
+    (map view_mention (drop c.loop-mention.mention-index c.args.mentioned.now)) (map view_mention rest)
+    (ap (map view_mention) front)) c.loop-mention.invariant
 
 pub returns : goal.returns
 returns c =
     sym (append-nil (map lexeme c.loop-mention.found.items))
-    ∙ ap (λ l. map lexeme c.loop-mention.found.items ++ tokens_where (is_sought c.args.sought) (flat_map (mentioned_on (map lexeme c.args.words.now)) (map view_mention l))) (sym (drop_all _ _ c.loop-mention-test.false))
+    ∙ ap (λ l. map lexeme c.loop-mention.found.items
+    ++ tokens_where (is_sought c.args.sought) (flat_map (mentioned_on (map lexeme c.args.words.now))
+    (map view_mention l))) (sym (drop_all _ _ c.loop-mention-test.false))
     ∙ c.loop-mention.invariant

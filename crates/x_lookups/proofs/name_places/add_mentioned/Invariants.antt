@@ -8,5 +8,7 @@ use Rattle.x_lookups.proofs.name_places.add_mentioned.Given as goal
 
 abbrev pub invariant-loop-mention : goal.invariant-loop-mention
 invariant-loop-mention l =
-    map lexeme l.found.items ++ tokens_where (is_sought l.sought) (flat_map (mentioned_on (map lexeme l.words)) (map view_mention (drop l.mention-index l.mentioned)))
-    ≡ map lexeme l.fn.found.items ++ tokens_where (is_sought l.sought) (flat_map (mentioned_on (map lexeme l.words)) (map view_mention l.mentioned))
+    map lexeme l.found.items ++ tokens_where (is_sought l.sought)
+    (flat_map (mentioned_on (map lexeme l.words)) (map view_mention (drop l.mention-index l.mentioned)))
+    ≡ map lexeme l.fn.found.items ++ tokens_where (is_sought l.sought)
+    (flat_map (mentioned_on (map lexeme l.words)) (map view_mention l.mentioned))

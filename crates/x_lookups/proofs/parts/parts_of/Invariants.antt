@@ -6,4 +6,5 @@ use Rattle.x_lookups.proofs.parts.parts_of.Given as goal
 
 abbrev pub invariant-loop-index : goal.invariant-loop-index
 invariant-loop-index l =
-    parts_from (reading_of l.reader) l.index (map lexeme (drop l.index l.tokens)) ≡ parts_of (map lexeme l.tokens)
+    parts_from (reading_of l.reader) l.index (map lexeme (drop l.index l.tokens))
+    ≡ parts_of (map lexeme l.tokens)

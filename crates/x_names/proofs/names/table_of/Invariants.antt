@@ -6,4 +6,5 @@ use Rattle.x_names.proofs.names.table_of.Given as goal
 
 -- the table has what the items from this one on declare
 abbrev pub invariant-loop-item : goal.invariant-loop-item
-invariant-loop-item l = AreShort (map tree_at l.definitions) → (name : List ℕ) → entry_in l.table.entries name ≡ first_from l.item (map tree_at (drop l.item l.definitions)) name
+invariant-loop-item l = AreShort (map tree_at l.definitions) → (name : List ℕ)
+    → entry_in l.table.entries name ≡ first_from l.item (map tree_at (drop l.item l.definitions)) name

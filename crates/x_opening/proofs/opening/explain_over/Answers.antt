@@ -16,7 +16,8 @@ returns-clause-told g c =
     let now = g.E.Sink.state c.finish.new.sink in
     let all = c.add_explained_faults.ensures in
     let text = all.3.0 in
-    let none : Writes start [] c.new-pen.result start = subst (λ (p : Inked). Writes start [] p start) (sym c.new-pen.ensures) (writes_none start) in
+    let none : Writes start [] c.new-pen.result start =
+    subst (λ (p : Inked). Writes start [] p start) (sym c.new-pen.ensures) (writes_none start) in
     let places = before_in c.in_ok-facts.facts in
     let have = subst (HavePlaces no_places c.args.how.now.known.now.files.items)
     (sym c.in_ok-facts.ensures.files) c.requires in
@@ -26,6 +27,7 @@ returns-clause-told g c =
     (subst (λ ns. Compiles c.args.session.now.known c.args.session.now.text
     (λ items. AreForeign c.text.result.now c.args.how.now.from_c c.args.session.now.text items ns))
     (sym c.in_ok-facts.ensures.foreign) c.in_ok-foreign.ensures) in
-    let told_is = told c.finish.result start now text (c.finish.ensures.written start text (all.3.2.goes_on start [] none)) in
+    let told_is = told c.finish.result start now text
+    (c.finish.ensures.written start text (all.3.2.goes_on start [] none)) in
     let named = of_each c.args.session.now.text are all.0 all.1 all.2 in
     (all.0, all.1, all.2, (places, have, foreign, named, text, all.3.1, told_is))

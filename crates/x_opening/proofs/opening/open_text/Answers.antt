@@ -1,4 +1,5 @@
-use Rattle.std.proofs.Common.{◌≡◌, ◌∙◌, ◌<◌, ◌≤◌, ◌⊎◌, ℕ, List, [], ◌∷◌, length, codes, ap, subst, refl, arith, inr}
+use Rattle.std.proofs.Common.{◌≡◌, ◌∙◌, ◌<◌, ◌≤◌, ◌⊎◌, ℕ, List, [], ◌∷◌, length, codes, ap, subst, refl}
+use Rattle.std.proofs.Common.{arith, inr}
 use Rattle.std.specs.Prelude.{IsErrOf, Ok, Err}
 use Rattle.x_text.specs.declared.text.fault.TextFault.TheVariants as fault
 use Rattle.x_session.specs.Session.{Compiles, Document}
@@ -30,7 +31,8 @@ no_error v e h = cc
 some_faults : (how : Opening) (known : KnownText) (text file : List ℕ) (before after : Stream) (n : ℕ) → 0 < n
     → Compiles known text (λ items. n ≡ length (faults_of text items))
     → Compiles known text (λ items. TellsFaults how file text items before after)
-    → Compiles known text (λ items. (0 < length (faults_of text items)) × TellsFaults how file text items before after)
+    → Compiles known text (λ items. (0 < length (faults_of text items))
+    × TellsFaults how file text items before after)
 some_faults how known text file before after n more count all =
     let same : count.1 ≡ all.1 = (one_compilation known text count.0 all.0 count.1 all.1 count.2 all.2).1 in
     let long : n ≡ length (faults_of text all.1) = count.3 ∙ ap (λ is. length (faults_of text is)) same in
@@ -46,7 +48,12 @@ returns-else-fault_count-gt0-clause-opened g c =
       base = opens.base_is ∙ c.base_of_file.ensures;
       known = opens.known_is;
       text = opens.text_is;
-      clean = (session.known, opens.known_is, subst (λ t. Compiles session.known t (λ items. faults_of t items ≡ [])) opens.text_is (h.0, h.1, h.2, none));
+      clean = (
+        session.known,
+        opens.known_is,
+        subst (λ t. Compiles session.known t (λ items. faults_of t items ≡ [])) opens.text_is
+            (h.0, h.1, h.2, none),
+      );
       faultless = (h.0, h.1, h.2, none);
       faulty = λ e. absurd (no_error session status.Faulty e);
       too_large = λ more. absurd (no_error session fault.TooLarge (opens.too_large more));
@@ -85,8 +92,10 @@ returns-then-fault_count-gt0-clause-opened g c =
     let file = c.args.file.now in
     let before = g.E.Sink.state c.args.err.now in
     let after = g.E.Sink.state c.report_faults.new.err in
-    let few : most_text < length c.args.bytes.now → ⊥ = λ more. no_error session fault.TooLarge (opens.too_large more) in
-    let found = λ (e : c.report_faults.result ≡ status.Faulty). some_faults how session.known session.text file before after
+    let few : most_text < length c.args.bytes.now → ⊥ =
+    λ more. no_error session fault.TooLarge (opens.too_large more) in
+    let found = λ (e : c.report_faults.result ≡ status.Faulty).
+    some_faults how session.known session.text file before after
     c.fault_count.result c.if-fault_count-gt0.true c.fault_count.ensures (c.report_faults.ensures.faulty e) in
     reported how c.args.program.now file c.args.bytes.now before after c.report_faults.result few
     (λ e. (
@@ -106,7 +115,9 @@ returns-in-Err-clause-opened g c = record {
   faultless = tt;
   faulty = λ e. absurd (cc);
   too_large = λ more. refl;
-  failed = λ e. not_opened Session c.args.how.now c.args.program.now c.args.file.now c.args.bytes.now (g.E.Sink.state c.args.err.now) (g.E.Sink.state c.tell_unopened.new.err)
-      c.in-Err.fault c.in-Err.ensures.too_large c.in-Err.ensures.large c.in-Err.ensures.in_range c.tell_unopened.ensures;
+  failed = λ e. not_opened Session c.args.how.now c.args.program.now c.args.file.now c.args.bytes.now
+      (g.E.Sink.state c.args.err.now) (g.E.Sink.state c.tell_unopened.new.err)
+      c.in-Err.fault c.in-Err.ensures.too_large c.in-Err.ensures.large c.in-Err.ensures.in_range
+      c.tell_unopened.ensures;
   others = inr refl;
 }

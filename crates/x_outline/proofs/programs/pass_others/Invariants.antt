@@ -7,5 +7,6 @@ use Rattle.x_outline.proofs.programs.pass_others.Given as goal
 
 abbrev pub invariant-loop-argument : goal.invariant-loop-argument
 invariant-loop-argument l =
-    (to : BodyWalk) → Skips l.walk to (length (spell_others (map view_argument (drop l.argument-index l.others))))
+    (to : BodyWalk)
+    → Skips l.walk to (length (spell_others (map view_argument (drop l.argument-index l.others))))
     → Skips l.fn.walk to (length (spell_others (map view_argument l.others)))

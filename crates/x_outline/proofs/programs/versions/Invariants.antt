@@ -5,5 +5,6 @@ use Rattle.x_outline.proofs.programs.versions.Given as goal
 
 abbrev pub invariant-loop-version : goal.invariant-loop-version
 invariant-loop-version l =
-    (to : WalkState) → AddsVersions (place l.walk.word l.groups.items l.members) to (map view_version (drop l.version-index l.list))
+    (to : WalkState) → AddsVersions (place l.walk.word l.groups.items l.members) to
+    (map view_version (drop l.version-index l.list))
     → AddsVersions (start 3) to (map view_version l.list)

@@ -9,7 +9,8 @@ use Rattle.x_parser.proofs.cases.cases.Given as goal
 
 abbrev pub invariant-loop-rest : goal.invariant-loop-rest
 invariant-loop-rest l = record {
-  read : (n : ℕ) → ReadsPart (Fixed marks.Case ∷ []) (AnyValue ∷ Token marks.Colon ∷ AfterCase n ∷ []) l.tokens (spell_cases (map view_value l.cases.items)) (AfterCase n ∷ []) l.left;
+  read : (n : ℕ) → ReadsPart (Fixed marks.Case ∷ []) (AnyValue ∷ Token marks.Colon ∷ AfterCase n ∷ [])
+      l.tokens (spell_cases (map view_value l.cases.items)) (AfterCase n ∷ []) l.left;
   some : HasOne (map view_value l.cases.items);
 }
 

@@ -12,16 +12,21 @@ use Rattle.x_parser.proofs.complete.complete_definition.Goals as goal
 
 pub returns-in_err-definition-clause-stuck : goal.returns-in_err-definition-clause-stuck
 returns-in_err-definition-clause-stuck c =
-    exit_refused (map lexeme c.args.tokens.now) _ _ c.from_residual.ensures.1 (refused_at c.args.tokens.now _ c.in_err-definition.ensures.stuck)
+    exit_refused (map lexeme c.args.tokens.now) _ _ c.from_residual.ensures.1
+    (refused_at c.args.tokens.now _ c.in_err-definition.ensures.stuck)
 
 pub returns : goal.returns
 returns c =
     let read = c.in_ok-definition in
     let item = map lexeme c.args.tokens.now in
     record {
-      found = ok_of (λ d. spell (view_definition d) ≡ words_of item) c.finish.result _ c.finish.ensures.value c.finish.ensures.end
-          (λ end. found_whole c.args.tokens.now read.rest.now (view_definition read.definition) read.ensures.read.found end);
-      fits = ok_of (λ d. KeepsLimits (view_definition d)) c.finish.result _ c.finish.ensures.value c.finish.ensures.end (λ end. read.ensures.fits);
+      found = ok_of (λ d. spell (view_definition d) ≡ words_of item) c.finish.result _ c.finish.ensures.value
+          c.finish.ensures.end
+          (λ end. found_whole c.args.tokens.now read.rest.now (view_definition read.definition)
+          read.ensures.read.found end);
+      fits = ok_of (λ d. KeepsLimits (view_definition d)) c.finish.result _ c.finish.ensures.value
+          c.finish.ensures.end (λ end. read.ensures.fits);
       stuck = IfErr-weaker c.finish.result (IsBefore read.rest.now) (IsRefused item)
-          (λ e before. refused_before c.args.tokens.now read.rest.now (view_definition read.definition) read.ensures.fits read.ensures.read e before) c.finish.ensures.stuck;
+          (λ e before. refused_before c.args.tokens.now read.rest.now (view_definition read.definition)
+          read.ensures.fits read.ensures.read e before) c.finish.ensures.stuck;
     }

@@ -5,7 +5,8 @@ use Rattle.x_trees.specs.Spell.{spell_declarations, spell_arms, ArmsFit, Declara
 use Rattle.x_trees.specs.View.{view_declarations, view_arms}
 use Rattle.x_parser.specs.declared.ending.Ending.TheVariants as endings
 use Rattle.x_trees.specs.declared.trees.declaration.Tag.TheVariants as tags
-use Rattle.x_parser.specs.Symbols.{AnyBody, AnyValue, Token, AfterCase, Arms, MoreArms, Declared, MoreDeclarations}
+use Rattle.x_parser.specs.Symbols.{AnyBody, AnyValue, Token, AfterCase, Arms, MoreArms, Declared}
+use Rattle.x_parser.specs.Symbols.{MoreDeclarations}
 use Rattle.x_parser.specs.Reading.{ReadsPart}
 use Rattle.x_parser.proofs.declaration.+parser.Given as goal
 
@@ -38,7 +39,9 @@ decreases-body l = 8 * l.depth + 6
 
 abbrev pub invariant-body_of_struct-loop-members : goal.invariant-body_of_struct-loop-members
 invariant-body_of_struct-loop-members l = record {
-  read : ReadsPart [] (AnyBody tags.Struct l.depth ∷ []) l.tokens (Fixed marks.OpenBrace ∷ spell_declarations (view_declarations l.members.items)) (Declared l.depth endings.Semicolon ∷ MoreDeclarations l.depth ∷ []) l.left;
+  read : ReadsPart [] (AnyBody tags.Struct l.depth ∷ []) l.tokens
+      (Fixed marks.OpenBrace ∷ spell_declarations (view_declarations l.members.items))
+      (Declared l.depth endings.Semicolon ∷ MoreDeclarations l.depth ∷ []) l.left;
   fits : DeclarationsFit (view_declarations l.members.items) l.depth;
 }
 
@@ -47,7 +50,9 @@ decreases-body_of_struct-loop-members l = length l.left
 
 abbrev pub invariant-arms-loop-arms : goal.invariant-arms-loop-arms
 invariant-arms-loop-arms l = record {
-  read : ReadsPart [] (Token marks.OpenBrace ∷ Arms l.depth ∷ []) l.tokens (Fixed marks.OpenBrace ∷ (spell_arms (view_arms l.arms.items) ++ Fixed marks.Case ∷ [])) (AnyValue ∷ Token marks.Colon ∷ AfterCase l.depth ∷ MoreArms l.depth ∷ []) l.left;
+  read : ReadsPart [] (Token marks.OpenBrace ∷ Arms l.depth ∷ []) l.tokens
+      (Fixed marks.OpenBrace ∷ (spell_arms (view_arms l.arms.items) ++ Fixed marks.Case ∷ []))
+      (AnyValue ∷ Token marks.Colon ∷ AfterCase l.depth ∷ MoreArms l.depth ∷ []) l.left;
   fits : ArmsFit (view_arms l.arms.items) l.depth;
 }
 

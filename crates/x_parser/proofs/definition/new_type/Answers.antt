@@ -15,9 +15,12 @@ returns-clause-read c =
     let tag = c.args.tag in
     let name = c.in_ok-name.name.items in
     let body = c.in_ok-body.body in
-    let named = read_more (AnyName ∷ []) (AnyBody tag MOST_INLINE ∷ Token marks.Semicolon ∷ []) c.in_ok-name.ensures.read in
-    let whole = read_then (AnyBody tag MOST_INLINE ∷ []) (Token marks.Semicolon ∷ []) named c.in_ok-body.ensures.read in
+    let named = read_more (AnyName ∷ []) (AnyBody tag MOST_INLINE ∷ Token marks.Semicolon ∷ [])
+    c.in_ok-name.ensures.read in
+    let whole = read_then (AnyBody tag MOST_INLINE ∷ []) (Token marks.Semicolon ∷ []) named
+    c.in_ok-body.ensures.read in
     let closed = read_then (Token marks.Semicolon ∷ []) [] whole c.in_ok-body-2.ensures.read in
-    let keyword = ap (λ m. Fixed m ∷ Name name ∷ (spell_body (view_body body) ++ Fixed marks.Semicolon ∷ [])) (sym c.in_ok-body.ensures.of) in
+    let keyword = ap (λ m. Fixed m ∷ Name name ∷ (spell_body (view_body body) ++ Fixed marks.Semicolon ∷ []))
+    (sym c.in_ok-body.ensures.of) in
     let same = ap (λ b. spell (NewType name (view_body b))) (sym c.in_ok-body-2.ensures.value) in
     read_as (keyword ∙ same) (read_after_word (Fixed (tag_mark tag)) closed)

@@ -8,5 +8,7 @@ use Rattle.x_parser.proofs.definition.program.Goals as goal
 pub returns-clause-read : goal.returns-clause-read
 returns-clause-read c =
     let named = read_more (AnyName ∷ []) (of_versions ++ of_number) c.in_ok-name.ensures.read in
-    let braced = rw c.fitted.ensures at (read_then of_versions of_number named c.in_ok-versions.ensures.read) in
-    read_as (simp append_assoc) (read_after_word (Fixed marks.Program) (read_then of_number [] braced c.in_ok-number.ensures.read))
+    let braced = rw c.fitted.ensures at
+    (read_then of_versions of_number named c.in_ok-versions.ensures.read) in
+    read_as (simp append_assoc)
+    (read_after_word (Fixed marks.Program) (read_then of_number [] braced c.in_ok-number.ensures.read))

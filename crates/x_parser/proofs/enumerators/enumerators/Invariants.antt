@@ -7,7 +7,8 @@ use Rattle.x_parser.proofs.enumerators.enumerators.Given as goal
 
 abbrev pub invariant-loop-rest : goal.invariant-loop-rest
 invariant-loop-rest l = record {
-  read : ReadsPart [] (Enumerators ∷ []) l.tokens (spell_enumerators (map view_enumerator l.members.items)) (MoreEnumerators ∷ []) l.left;
+  read : ReadsPart [] (Enumerators ∷ []) l.tokens (spell_enumerators (map view_enumerator l.members.items))
+      (MoreEnumerators ∷ []) l.left;
   some : HasOne (map view_enumerator l.members.items);
 }
 

@@ -9,7 +9,9 @@ use Rattle.x_parser.proofs.program.arguments.Given as goal
 
 abbrev pub invariant-loop-rest : goal.invariant-loop-rest
 invariant-loop-rest l = record {
-  read : ReadsPart [] of_arguments l.tokens (Fixed marks.OpenParenthesis ∷ (spell_passed (view_passed l.head) ++ spell_others (map view_argument l.others.items))) (AfterType InArguments ∷ []) l.left;
+  read : ReadsPart [] of_arguments l.tokens
+      (Fixed marks.OpenParenthesis ∷ (spell_passed (view_passed l.head)
+      ++ spell_others (map view_argument l.others.items))) (AfterType InArguments ∷ []) l.left;
   first_fits : PassedFits (view_passed l.head);
   fits : OthersFit (map view_argument l.others.items);
 }

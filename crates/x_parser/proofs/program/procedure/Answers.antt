@@ -7,7 +7,9 @@ use Rattle.x_parser.proofs.ReadLemmas.{read_as, read_more, read_then}
 
 pub returns-clause-read : goal.returns-clause-read
 returns-clause-read c =
-    let result = read_more (AnyResult ∷ []) (Token marks.OpenParenthesis ∷ Parameters ∷ of_number) c.in_ok-result.ensures.read in
-    let named = read_then (AnyName ∷ []) (Token marks.OpenParenthesis ∷ Parameters ∷ of_number) result c.in_ok-name.ensures.read in
+    let result = read_more (AnyResult ∷ []) (Token marks.OpenParenthesis ∷ Parameters ∷ of_number)
+    c.in_ok-result.ensures.read in
+    let named = read_then (AnyName ∷ []) (Token marks.OpenParenthesis ∷ Parameters ∷ of_number) result
+    c.in_ok-name.ensures.read in
     let passed = read_then of_arguments of_number named c.in_ok-first.ensures.read in
     read_as (simp append_assoc) (read_then of_number [] passed c.in_ok-number.ensures.read)

@@ -9,7 +9,9 @@ use Rattle.x_parser.proofs.program.procedures.Given as goal
 
 abbrev pub invariant-loop-members : goal.invariant-loop-members
 invariant-loop-members l = record {
-  read : ReadsPart [] of_procedures l.tokens (Fixed marks.OpenBrace ∷ spell_procedures (map view_procedure l.members.items)) (of_procedure ++ MoreProcedures ∷ []) l.left;
+  read : ReadsPart [] of_procedures l.tokens
+      (Fixed marks.OpenBrace ∷ spell_procedures (map view_procedure l.members.items))
+      (of_procedure ++ MoreProcedures ∷ []) l.left;
   fits : ProceduresFit (map view_procedure l.members.items);
 }
 

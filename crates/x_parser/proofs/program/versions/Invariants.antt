@@ -9,7 +9,9 @@ use Rattle.x_parser.proofs.program.versions.Given as goal
 
 abbrev pub invariant-loop-members : goal.invariant-loop-members
 invariant-loop-members l = record {
-  read : ReadsPart [] of_versions l.tokens (Fixed marks.OpenBrace ∷ spell_versions (map view_version l.members.items)) (of_version ++ MoreVersions ∷ []) l.left;
+  read : ReadsPart [] of_versions l.tokens
+      (Fixed marks.OpenBrace ∷ spell_versions (map view_version l.members.items))
+      (of_version ++ MoreVersions ∷ []) l.left;
   fits : VersionsFit (map view_version l.members.items);
 }
 

@@ -4,7 +4,8 @@ use Rattle.x_parser.proofs.words.expect.Goals as goal
 
 pub returns-then-is_mark-clause-read : goal.returns-then-is_mark-clause-read
 returns-then-is_mark-clause-read c =
-    read_first (Fixed c.args.mark) c.in_ok-word.ensures.word (c.is_mark.ensures.0 c.if-is_mark.true) (takes_mark c.args.mark)
+    read_first (Fixed c.args.mark) c.in_ok-word.ensures.word (c.is_mark.ensures.0 c.if-is_mark.true)
+    (takes_mark c.args.mark)
 
 pub returns-clause-stuck : goal.returns-clause-stuck
 returns-clause-stuck c =

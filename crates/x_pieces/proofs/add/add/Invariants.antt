@@ -4,4 +4,5 @@ use Rattle.x_pieces.proofs.add.add.Given as goal
 
 -- those so far and those that are left
 abbrev pub invariant-loop-part : goal.invariant-loop-part
-invariant-loop-part l = behind l.text.items (map (λ p. p.now) (drop l.part-index l.parts)) ≡ behind l.fn.text.items (map (λ p. p.now) l.parts)
+invariant-loop-part l = behind l.text.items (map (λ p. p.now) (drop l.part-index l.parts))
+    ≡ behind l.fn.text.items (map (λ p. p.now) l.parts)

@@ -5,4 +5,6 @@ use Rattle.x_pieces.proofs.header.add_fields.Given as goal
 
 -- those so far and those that are left
 abbrev pub invariant-loop-declaration : goal.invariant-loop-declaration
-invariant-loop-declaration l = l.text.items ++ field_lines l.around (view_declarations (drop l.declaration-index l.declarations)) ≡ l.fn.text.items ++ field_lines l.around (view_declarations l.declarations)
+invariant-loop-declaration l = l.text.items
+    ++ field_lines l.around (view_declarations (drop l.declaration-index l.declarations))
+    ≡ l.fn.text.items ++ field_lines l.around (view_declarations l.declarations)

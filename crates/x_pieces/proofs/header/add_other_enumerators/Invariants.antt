@@ -6,4 +6,8 @@ use Rattle.x_pieces.proofs.header.add_other_enumerators.Given as goal
 
 -- those so far and those that are left
 abbrev pub invariant-loop-enumerator : goal.invariant-loop-enumerator
-invariant-loop-enumerator l = l.text.items ++ flat_map (λ other. codes ",\n" ++ enumerator_text other) (map view_enumerator (drop l.enumerator-index l.enumerators)) ≡ l.fn.text.items ++ flat_map (λ other. codes ",\n" ++ enumerator_text other) (map view_enumerator l.enumerators)
+invariant-loop-enumerator l = l.text.items
+    ++ flat_map (λ other. codes ",\n" ++ enumerator_text other)
+    (map view_enumerator (drop l.enumerator-index l.enumerators))
+    ≡ l.fn.text.items ++ flat_map (λ other. codes ",\n" ++ enumerator_text other)
+    (map view_enumerator l.enumerators)

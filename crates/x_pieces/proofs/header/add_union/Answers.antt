@@ -7,5 +7,6 @@ use Rattle.x_pieces.proofs.header.add_union.Goals as goal
 pub returns : goal.returns
 returns c =
     let lines = rw c.deref.ensures.value at c.in_ok-add_union_lines.ensures in
-    then_three _ _ _ _ _ _ _ _ _ c.in_ok-add.ensures c.in_ok-add_member.ensures lines c.in_ok-extend_from_slice.ensures.items
+    then_three _ _ _ _ _ _ _ _ _ c.in_ok-add.ensures c.in_ok-add_member.ensures lines
+    c.in_ok-extend_from_slice.ensures.items
     ∙ ap (λ b. c.args.text.now.items ++ body_lines c.args.name.now b) (sym (union_parts c.args.body.now))

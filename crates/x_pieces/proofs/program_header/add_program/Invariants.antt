@@ -6,4 +6,7 @@ use Rattle.x_pieces.proofs.program_header.add_program.Given as goal
 
 -- those so far and those that are left
 abbrev pub invariant-loop-version : goal.invariant-loop-version
-invariant-loop-version l = l.text.items ++ flat_map version_lines (map view_version (drop l.version-index l.versions)) ≡ (l.fn.text.items ++ constant_line l.name l.number) ++ flat_map version_lines (map view_version l.versions)
+invariant-loop-version l = l.text.items
+    ++ flat_map version_lines (map view_version (drop l.version-index l.versions))
+    ≡ (l.fn.text.items ++ constant_line l.name l.number) ++ flat_map version_lines
+    (map view_version l.versions)

@@ -6,4 +6,5 @@ use Rattle.x_pieces.proofs.rendering.add_headers.Given as goal
 
 -- those so far and those that are left
 abbrev pub invariant-loop-named : goal.invariant-loop-named
-invariant-loop-named l = l.text.items ++ flat_map type_header (view_types (drop l.named-index l.types)) ≡ l.fn.text.items ++ flat_map type_header (view_types l.types)
+invariant-loop-named l = l.text.items ++ flat_map type_header (view_types (drop l.named-index l.types))
+    ≡ l.fn.text.items ++ flat_map type_header (view_types l.types)

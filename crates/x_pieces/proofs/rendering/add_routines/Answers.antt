@@ -9,6 +9,8 @@ use Rattle.x_pieces.proofs.rendering.add_routines.Goals as goal
 pub loop-named-preserved : goal.loop-named-preserved
 loop-named-preserved c =
     let rest = drop (c.loop-named.named-index + 1) c.args.types.now in
-    next (λ types. flat_map type_routine (view_types types)) _ rest c.named-item.result (type_routine (view_named c.named-item.result)) _ _ _
-    (drop_more c.args.types.now c.loop-named.named-index _ c.loop-named-test.true ∙ ap (λ x. x ∷ rest) (sym c.named-item.is))
+    next (λ types. flat_map type_routine (view_types types)) _ rest c.named-item.result
+    (type_routine (view_named c.named-item.result)) _ _ _
+    (drop_more c.args.types.now c.loop-named.named-index _ c.loop-named-test.true
+    ∙ ap (λ x. x ∷ rest) (sym c.named-item.is))
     refl c.in_ok-add_type.ensures c.loop-named.invariant

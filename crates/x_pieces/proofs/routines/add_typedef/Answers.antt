@@ -10,5 +10,6 @@ returns c =
     let call = rw c.name-name.ensures at c.in_ok-add_checked_call.ensures in
     on_ok_weaker c.add_end.result
     (λ last. then_two _ _ _ _ _ _ _ front call last
-    ∙ ap (λ l. c.args.text.now.items ++ l) (sym (typedef_routine_of _ (sym c.is_void.ensures ∙ c.if-is_void.false))))
+    ∙ ap (λ l. c.args.text.now.items ++ l)
+    (sym (typedef_routine_of _ (sym c.is_void.ensures ∙ c.if-is_void.false))))
     c.add_end.ensures

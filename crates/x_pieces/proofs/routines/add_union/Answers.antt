@@ -11,6 +11,7 @@ returns c =
     let arms = rw c.deref.ensures.value at c.in_ok-add_arms.ensures in
     on_ok_weaker c.add_end.result
     (λ last. then _ _ _ _ _
-    (then_four _ _ _ _ _ _ _ _ _ _ _ c.in_ok-add_checked_call.ensures switch arms c.in_ok-add_default.ensures c.in_ok-extend_from_slice.ensures.items) last
+    (then_four _ _ _ _ _ _ _ _ _ _ _ c.in_ok-add_checked_call.ensures switch arms c.in_ok-add_default.ensures
+    c.in_ok-extend_from_slice.ensures.items) last
     ∙ ap (λ b. c.args.text.now.items ++ body_calls c.args.name.now b) (sym (union_parts c.args.body.now)))
     c.add_end.ensures

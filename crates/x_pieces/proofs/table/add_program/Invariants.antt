@@ -5,4 +5,6 @@ use Rattle.x_pieces.proofs.table.add_program.Given as goal
 
 -- those so far and those that are left
 abbrev pub invariant-loop-version : goal.invariant-loop-version
-invariant-loop-version l = l.text.items ++ program_table l.program (map view_version (drop l.version-index l.versions)) ≡ l.fn.text.items ++ program_table l.program (map view_version l.versions)
+invariant-loop-version l = l.text.items
+    ++ program_table l.program (map view_version (drop l.version-index l.versions))
+    ≡ l.fn.text.items ++ program_table l.program (map view_version l.versions)

@@ -19,10 +19,15 @@ loop-index-preserved g c =
     let its = pieces_at parts i in
     let told : Adds c.loop-index.pen next c.match-pieces.pen end (option_map_or (λ d. d.forward) its []) =
     elim c.match-pieces.branch [
-      | in-Some w ↦ some_added state (λ d. d.forward) c.pieces.result its w.in-Some.pieces w.forward.result.now c.loop-index.pen w.add.new.self c.match-pieces.pen next w.add.new.sink c.match-pieces.sink
+      | in-Some w ↦ some_added state (λ d. d.forward) c.pieces.result its w.in-Some.pieces
+          w.forward.result.now c.loop-index.pen w.add.new.self c.match-pieces.pen next w.add.new.sink
+          c.match-pieces.sink
           c.pieces.ensures w.in-Some.is w.forward.ensures w.pen-is w.sink-is w.add.ensures
-      | in_default w ↦ none_added state (λ d. d.forward) c.pieces.result its c.loop-index.pen c.match-pieces.pen c.loop-index.sink c.match-pieces.sink
+      | in_default w ↦ none_added state (λ d. d.forward) c.pieces.result its c.loop-index.pen
+          c.match-pieces.pen c.loop-index.sink c.match-pieces.sink
           c.pieces.ensures w.in_default.is w.pen-is w.sink-is
     ] in
-    lists_at forward_of parts i c.args.pen.now c.loop-index.pen c.match-pieces.pen (state c.args.sink.now) mid end
-    (omega arith) c.loop-index.invariant (subst (λ t. Adds c.loop-index.pen mid c.match-pieces.pen end t) (sym (forward_at parts i)) told)
+    lists_at forward_of parts i c.args.pen.now c.loop-index.pen c.match-pieces.pen
+    (state c.args.sink.now) mid end
+    (omega arith) c.loop-index.invariant
+    (subst (λ t. Adds c.loop-index.pen mid c.match-pieces.pen end t) (sym (forward_at parts i)) told)

@@ -16,6 +16,9 @@ returns g c =
     let end = g.S.Sink.state c.add.new.sink in
     let told : Adds c.add_prologue.new.pen front c.if-eq.pen mid (forwards c.args.which parts) =
     elim c.if-eq.branch [ then-eq w ↦ search rules | else-eq w ↦ search rules ] in
-    four c.args.pen.now c.add_prologue.new.pen c.if-eq.pen c.add_parts.new.pen c.add.new.self start front mid next end
-    (prologue c.args.which c.args.base.now) (forwards c.args.which parts) (flat_map (part_text c.args.which) parts) (epilogue c.args.which)
-    c.add_prologue.ensures told c.add_parts.ensures (subst (λ t. Adds c.add_parts.new.pen next c.add.new.self end t) c.epilogue.ensures c.add.ensures)
+    four c.args.pen.now c.add_prologue.new.pen c.if-eq.pen c.add_parts.new.pen c.add.new.self start front
+    mid next end
+    (prologue c.args.which c.args.base.now) (forwards c.args.which parts)
+    (flat_map (part_text c.args.which) parts) (epilogue c.args.which)
+    c.add_prologue.ensures told c.add_parts.ensures
+    (subst (λ t. Adds c.add_parts.new.pen next c.add.new.self end t) c.epilogue.ensures c.add.ensures)

@@ -14,9 +14,11 @@ loop-index-preserved g c =
     let its = pieces_at parts i in
     let told : IsCounted c.loop-index.length c.match-pieces.length (option_map_or (λ d. d.forward) its []) =
     elim c.match-pieces.branch [
-      | in-Some w ↦ some_counted (λ d. d.forward) c.pieces.result its w.in-Some.pieces w.forward.result.now c.loop-index.length c.match-pieces.length
+      | in-Some w ↦ some_counted (λ d. d.forward) c.pieces.result its w.in-Some.pieces w.forward.result.now
+          c.loop-index.length c.match-pieces.length
           c.pieces.ensures w.in-Some.is w.forward.ensures w.length-is w.forward.type_inv.0
-      | in_default w ↦ none_counted (λ d. d.forward) c.pieces.result its c.loop-index.length c.match-pieces.length c.pieces.ensures w.in_default.is w.length-is
+      | in_default w ↦ none_counted (λ d. d.forward) c.pieces.result its c.loop-index.length
+          c.match-pieces.length c.pieces.ensures w.in_default.is w.length-is
     ] in
     let grown = length_more forward_of parts i (omega arith) in
     let same = ap length (forward_at parts i) in

@@ -12,11 +12,15 @@ loop-index-preserved g c =
     let parts = g.L.PieceList.parts c.args.list.now in
     let i = c.loop-index.index in
     let its = pieces_at parts i in
-    let told : IsCounted (c.loop-index.length + length c.lines.result.now) c.match-pieces.length (option_map_or (piece c.args.which) its []) =
+    let told : IsCounted (c.loop-index.length + length c.lines.result.now) c.match-pieces.length
+    (option_map_or (piece c.args.which) its []) =
     elim c.match-pieces.branch [
-      | in-Some w ↦ some_counted (piece c.args.which) c.pieces.result its w.in-Some.pieces w.piece.result.now (c.loop-index.length + length c.lines.result.now) c.match-pieces.length
+      | in-Some w ↦ some_counted (piece c.args.which) c.pieces.result its w.in-Some.pieces w.piece.result.now
+          (c.loop-index.length + length c.lines.result.now) c.match-pieces.length
           c.pieces.ensures w.in-Some.is w.piece.ensures w.length-is w.piece.type_inv.0
-      | in_default w ↦ none_counted (piece c.args.which) c.pieces.result its (c.loop-index.length + length c.lines.result.now) c.match-pieces.length c.pieces.ensures w.in_default.is w.length-is
+      | in_default w ↦ none_counted (piece c.args.which) c.pieces.result its
+          (c.loop-index.length + length c.lines.result.now) c.match-pieces.length c.pieces.ensures
+          w.in_default.is w.length-is
     ] in
     let grown = length_more (part_text c.args.which) parts i (omega arith) in
     let same = part_length c.args.which parts i in

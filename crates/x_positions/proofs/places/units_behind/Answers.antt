@@ -14,5 +14,6 @@ returns-clause-units c =
     let all : length passed ≤ c.loop-byte.byte-index = omega arith in
     c.loop-byte.invariant.units
     ∙ ap (λ n. n + sum_by (unit e) (take c.loop-byte.byte-index passed)) c.requires.units
-    ∙ ap (λ l. units_before e line c.args.from + sum_by (unit e) l) (take_all c.loop-byte.byte-index passed all)
+    ∙ ap (λ l. units_before e line c.args.from + sum_by (unit e) l)
+    (take_all c.loop-byte.byte-index passed all)
     ∙ units_between e line c.args.from c.args.to c.requires.from

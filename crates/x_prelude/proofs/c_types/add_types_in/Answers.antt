@@ -21,7 +21,8 @@ loop-name-preserved c =
     c.in_ok-add_type.ensures.text in
     record {
       session = c.in_ok-add_type.ensures.session ∙ c.loop-name.invariant.session;
-      text = λ tokens items is. types_more c.args.table.now i (i + 1) _ own (definitions_of items) name declaration
+      text = λ tokens items is. types_more c.args.table.now i (i + 1) _ own (definitions_of items)
+          name declaration
           c.args.text.now.items mid new next c.loop-name-test.true c.as_bytes.ensures.value
           c.as_bytes-in-loop-name.ensures.value (c.loop-name.invariant.text tokens items is)
           (of_each c.args.session.now.text one tokens items is);

@@ -21,5 +21,6 @@ returns c =
       items,
       table.2,
       are text items all table.3 names
-          ∙ if_taken from.foreign (flat_map (foreign_at from text items) (first_of_each all)) c.if-not-from_c.false,
+          ∙ if_taken from.foreign (flat_map (foreign_at from text items) (first_of_each all))
+          c.if-not-from_c.false,
     )) c.placed.ensures

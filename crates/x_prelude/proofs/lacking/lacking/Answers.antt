@@ -54,7 +54,8 @@ loop-item-preserved c = λ tokens items is.
           names []
           next c.loop-item-test.true is c.item_count-item-end.ensures c.definition.ensures
           c.in_ok-names.ensures
-          (sym (ap (λ o. occurrences_in item (tree_at o)) (none_is c.definition.result w.in_default.not-Some)))
+          (sym (ap (λ o. occurrences_in item (tree_at o))
+          (none_is c.definition.result w.in_default.not-Some)))
           (nothing_more known first names) had)
     ]
 

@@ -11,7 +11,8 @@ use Rattle.x_compile.specs.Known.{known_names}
 use Rattle.x_prelude.specs.Reaching.{foreign_word, is_marked}
 use Rattle.x_prelude.proofs.LeadingLemmas.{defined_at, front_empty, front_found, front_passed, front_same}
 use Rattle.x_prelude.proofs.leading.first_marked.Goals as goal
-use Rattle.x_prelude.proofs.leading.first_marked.Goals.{in-Some+in_ok-read+in_default-foreign_word, in_default}
+use Rattle.x_prelude.proofs.leading.first_marked.Goals.{in-Some+in_ok-read+in_default-foreign_word}
+use Rattle.x_prelude.proofs.leading.first_marked.Goals.{in_default}
 
 pub returns-in-Some-foreign_word : goal.returns-in-Some-foreign_word
 returns-in-Some-foreign_word c are =
@@ -44,7 +45,8 @@ loop-item-preserved-then-not-marks-item c are =
     let item = c.loop-item.item in
     let within = c.loop-item-test.true in
     let inside : item < length marks = omega (arith, within, c.requires) in
-    let un : is_marked marks item ≡ false = get_or_default marks item false _ inside ∙ c.if-not-marks-item.true in
+    let un : is_marked marks item ≡ false = get_or_default marks item false _ inside
+    ∙ c.if-not-marks-item.true in
     let d = get_or definitions item None in
     front_same c.args.from_c (known_names c.args.known.now) (first_declarer ds) (is_marked marks) ds item
     (tree_at d) (defined_at definitions item d None within refl) un (c.loop-item.invariant are)

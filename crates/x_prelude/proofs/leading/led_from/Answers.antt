@@ -1,4 +1,5 @@
-use Rattle.std.proofs.Common.{◌≡◌, ◌<◌, ◌+◌, Some, None, ap, arith, get_or, length, map, refl, subst, sym, ◌∙◌}
+use Rattle.std.proofs.Common.{◌≡◌, ◌<◌, ◌+◌, Some, None, ap, arith, get_or, length, map, refl, subst, sym}
+use Rattle.std.proofs.Common.{◌∙◌}
 use Rattle.std.specs.Prelude.{slice_get}
 use Rattle.std.proofs.lemmas.List.{get_or_read_under}
 use Rattle.x_trees.specs.Collected.{view_mention}
@@ -46,7 +47,8 @@ loop-index-preserved c =
           let new = w.add_used.new.self in
           let on = w.in_ok-add_used.ensures count had.reached in
           let d = view_definition w.in-Some.definition.now in
-          let at : slice_get ds item ≡ Some (Some d) = defined_at definitions item (Some w.in-Some.definition) _
+          let at : slice_get ds item ≡ Some (Some d) =
+          defined_at definitions item (Some w.in-Some.definition) _
           within w.in-Some.is in
           subst Goes (sym w.reached-is) (record {
             reached = on.reached;
@@ -58,7 +60,8 @@ loop-index-preserved c =
                 (had.walk are);
           })
       | in_default w ↦
-          let at : slice_get ds item ≡ Some None = defined_at definitions item None _ within w.in_default.is in
+          let at : slice_get ds item ≡ Some None =
+          defined_at definitions item None _ within w.in_default.is in
           subst Goes (sym w.reached-is) (record {
             reached = had.reached;
             walk = λ are. walk_more ds c.args.from count index item old old inside read
@@ -74,8 +77,11 @@ returns-clause-led c are =
     let r = c.loop-index.reached in
     let few = all_done count r c.loop-index.invariant.reached in
     elim c.loop-index-test.branch [
-      | else-loop-index-test w ↦ walk_led (map tree_at c.args.definitions.now) c.args.from count c.loop-index.index
+      | else-loop-index-test w ↦ walk_led (map tree_at c.args.definitions.now) c.args.from count
+          c.loop-index.index
           r (omega (arith, few, w.loop-index-test.false)) (c.loop-index.invariant.walk are)
-      | then-loop-index-test+then-index-len w ↦ walk_led (map tree_at c.args.definitions.now) c.args.from count
-          c.loop-index.index r (omega (arith, w.if-index-len.true, w.len.ensures)) (c.loop-index.invariant.walk are)
+      | then-loop-index-test+then-index-len w ↦ walk_led (map tree_at c.args.definitions.now)
+          c.args.from count
+          c.loop-index.index r (omega (arith, w.if-index-len.true, w.len.ensures))
+          (c.loop-index.invariant.walk are)
     ]

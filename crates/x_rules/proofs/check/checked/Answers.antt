@@ -14,6 +14,7 @@ returns c o t =
     let faults = c.in_ok-faults.faults.items in
     let are = c.in_ok-faults.ensures o t in
     let outcome = outcome_of faults c.in_ok-meanings.meanings.items in
-    let meanings = c.in_ok-meanings.ensures o t (subst (AreFaults d see) (sym c.deref.ensures.value) are) ∙ ap (meanings_by d see) c.deref.ensures.value in
+    let meanings = c.in_ok-meanings.ensures o t (subst (AreFaults d see) (sym c.deref.ensures.value) are)
+    ∙ ap (meanings_by d see) c.deref.ensures.value in
     let given : GivesOutcome d see outcome = record { are_faults = are; are_meanings = meanings } in
     subst (GivesOutcome d see) (sym c.new.ensures) given

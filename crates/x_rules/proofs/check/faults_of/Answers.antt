@@ -25,15 +25,22 @@ returns c o t =
     let same : c.deref.result.now ≡ found = c.deref.ensures.value in
     let each : (f : WordFault) → IsAmong found f → Breaks d see f.word f.code =
     λ f h. found_breaks d see f (subst (λ l. IsAmong l f) is (c.order.ensures.from f h)) in
-    let each_found : (word : ℕ) (code : RuleCode) → Breaks d see word code → IsAmong found (record { word = word; code = code }) =
-    λ word code h. c.order.ensures.kept (record { word = word; code = code }) (subst (λ l. IsAmong l (record { word = word; code = code })) (sym is) (breaks_found d see word code h)) in
-    let bad_is = c.in_ok-bad.ensures all (knowns see all) t.numbers (subst Ascends (sym same) c.order.ensures.ascend) in
-    let bad_found = bad_is ∙ ap (flat_map (bad_cases_of see (knowns see all) c.deref.result.now)) c.deref-2.ensures.value ∙ ap (λ l. flat_map (bad_cases_of see (knowns see all) l) bs) same
-    ∙ kept_bad_cases see (knowns see all) found bs o.filled ∙ ap (flat_map (bad_cases_in see (knowns see all) found)) o.bodies_are in
+    let each_found : (word : ℕ) (code : RuleCode) → Breaks d see word code
+    → IsAmong found (record { word = word; code = code }) =
+    λ word code h. c.order.ensures.kept (record { word = word; code = code })
+    (subst (λ l. IsAmong l (record { word = word; code = code })) (sym is)
+    (breaks_found d see word code h)) in
+    let bad_is = c.in_ok-bad.ensures all (knowns see all) t.numbers
+    (subst Ascends (sym same) c.order.ensures.ascend) in
+    let bad_found = bad_is ∙ ap (flat_map (bad_cases_of see (knowns see all) c.deref.result.now))
+    c.deref-2.ensures.value ∙ ap (λ l. flat_map (bad_cases_of see (knowns see all) l) bs) same
+    ∙ kept_bad_cases see (knowns see all) found bs o.filled
+    ∙ ap (flat_map (bad_cases_in see (knowns see all) found)) o.bodies_are in
     let joined = c.in_ok-extend_from_slice.ensures.items ∙ ap (λ l. found ++ l) c.deref-3.ensures.value in
     are_faults d see found bad c.order-2.new.faults.items c.order-2.ensures.ascend
     (λ f h. subst (λ l. IsAmong l f) joined (c.order-2.ensures.from f h))
     (λ f h. c.order-2.ensures.kept f (subst (λ l. IsAmong l f) (sym joined) h))
     each each_found
     (λ f h. found_bad_case d see found f each_found (subst (λ l. IsAmong l f) bad_found h))
-    (λ word h. subst (λ l. IsAmong l (record { word = word; code = codes.BadCase })) (sym bad_found) (bad_case_found d see found word each h))
+    (λ word h. subst (λ l. IsAmong l (record { word = word; code = codes.BadCase })) (sym bad_found)
+    (bad_case_found d see found word each h))

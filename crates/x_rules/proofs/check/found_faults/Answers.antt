@@ -24,11 +24,15 @@ returns c o t =
     let first = first_place 0 (names_of d) in
     let duplicates =
     ap (λ l. duplicates_from see (place_seen c.args.sights.now) 0 (map view_name l)) c.deref.ensures.value
-    ∙ ap (λ f. duplicates_from see f 0 (map view_name ds)) (ap (λ names name. first_place 0 names name) t.names) ∙ ap (duplicates_from see first 0) o.names_are in
-    let uses = ap (λ l. mention_faults see all (map view_mention l)) c.deref-2.ensures.value ∙ ap (mention_faults see all) o.uses_are in
-    let noted = ap (λ ns. note_faults see known (map view_note_at ns)) c.deref-3.ensures.value ∙ ap (note_faults see known) o.notes_are in
+    ∙ ap (λ f. duplicates_from see f 0 (map view_name ds))
+    (ap (λ names name. first_place 0 names name) t.names) ∙ ap (duplicates_from see first 0) o.names_are in
+    let uses = ap (λ l. mention_faults see all (map view_mention l)) c.deref-2.ensures.value
+    ∙ ap (mention_faults see all) o.uses_are in
+    let noted = ap (λ ns. note_faults see known (map view_note_at ns)) c.deref-3.ensures.value
+    ∙ ap (note_faults see known) o.notes_are in
     let rest = body_faults d see known in
-    let h3 = added_before _ _ _ _ _ rest (c.in_ok-add_body_faults.ensures o t) (c.in_ok-add_past_last.ensures all known t.numbers) refl in
+    let h3 = added_before _ _ _ _ _ rest (c.in_ok-add_body_faults.ensures o t)
+    (c.in_ok-add_past_last.ensures all known t.numbers) refl in
     let h2 = added_before _ _ _ _ _ _ h3 (c.in_ok-add_words.ensures all known t.numbers) noted in
     let h1 = added_before _ _ _ _ _ _ h2 (c.in_ok-add_mentioned.ensures all known t.numbers) uses in
     let h0 = added_before _ _ _ _ _ _ h1 c.in_ok-add_duplicates.ensures duplicates in

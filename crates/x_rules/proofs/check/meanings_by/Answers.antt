@@ -17,6 +17,8 @@ returns-in-empty c =
     let none : c.args.faults.now ≡ [] = none_below c.args.faults.now c.in-empty.len_below in
     IfOk-weaker c.meanings.result _ _
     (λ list h o t are.
-    h t.numbers (ap (map view_body_at) c.deref-in-empty.ensures.value ∙ o.bodies_are) (none_too_high d see (subst (AreFaults d see) none are))
-    ∙ ap (λ l. map (meaning_of d see) (map view_name l)) c.deref.ensures.value ∙ ap (map (meaning_of d see)) o.names_are ∙ sym (ap (meanings_by d see) none))
+    h t.numbers (ap (map view_body_at) c.deref-in-empty.ensures.value ∙ o.bodies_are)
+    (none_too_high d see (subst (AreFaults d see) none are))
+    ∙ ap (λ l. map (meaning_of d see) (map view_name l)) c.deref.ensures.value
+    ∙ ap (map (meaning_of d see)) o.names_are ∙ sym (ap (meanings_by d see) none))
     c.meanings.ensures

@@ -24,6 +24,9 @@ returns c =
     ∙ map_map (λ m. m.name) view_mention outline.mentioned.items ∙ ap (map (λ m. m.name)) o.uses_are in
     let front : List (List ℕ) = map (λ (x : Declared). x.name) (declared d) in
     let seen : map (λ x. x.now) sights.names ≡ names_of d =
-    ap (map (λ x. x.now)) (c.in_ok-sights.ensures.names ∙ c.deref-3.ensures) ∙ c.in_ok-list_names.ensures c.new-names.ensures.items ∙ ap (λ l. l ++ map (λ m. m.name.now) c.deref-2.result.now) names ∙ ap (λ l. front ++ l) uses in
-    outcome_by d (map (λ x. x.now) sights.names) sights.views.now c.args.views.now checked seen c.in_ok-sights.ensures.views (h o seen))
+    ap (map (λ x. x.now)) (c.in_ok-sights.ensures.names ∙ c.deref-3.ensures)
+    ∙ c.in_ok-list_names.ensures c.new-names.ensures.items
+    ∙ ap (λ l. l ++ map (λ m. m.name.now) c.deref-2.result.now) names ∙ ap (λ l. front ++ l) uses in
+    outcome_by d (map (λ x. x.now) sights.names) sights.views.now c.args.views.now checked seen
+    c.in_ok-sights.ensures.views (h o seen))
     c.outcome_seen.ensures

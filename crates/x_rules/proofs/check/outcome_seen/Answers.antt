@@ -16,8 +16,11 @@ returns c =
     let sights = c.args.sights.now in
     let constants = c.in_ok-constants.constants in
     let enumerators_are =
-    ap (map view_enumerator_at) c.deref-2.ensures.value ∙ c.in_ok-list.ensures (subst AreFilled (sym c.deref.ensures.value) o.filled) ∙ ap (λ l. enumerators_in (map view_body_at l)) c.deref.ensures.value ∙ ap enumerators_in o.bodies_are in
-    let numbers = subst (λ all. HasNumbers constants all (knowns (seen_by sights) all)) enumerators_are c.in_ok-constants.ensures in
+    ap (map view_enumerator_at) c.deref-2.ensures.value
+    ∙ c.in_ok-list.ensures (subst AreFilled (sym c.deref.ensures.value) o.filled)
+    ∙ ap (λ l. enumerators_in (map view_body_at l)) c.deref.ensures.value ∙ ap enumerators_in o.bodies_are in
+    let numbers = subst (λ all. HasNumbers constants all (knowns (seen_by sights) all)) enumerators_are
+    c.in_ok-constants.ensures in
     let tables : AreTables outline sights constants = record { names = names; numbers = numbers } in
     h o tables)
     c.checked.ensures

@@ -7,4 +7,5 @@ use Rattle.x_schema.proofs.maker.places_linked.Given as goal
 
 abbrev pub invariant-loop-link : goal.invariant-loop-link
 invariant-loop-link l =
-    l.places.items ++ map (place_linked (named_types l.types.entries)) (drop l.link-index l.links) ≡ map (place_linked (named_types l.types.entries)) l.links
+    l.places.items ++ map (place_linked (named_types l.types.entries)) (drop l.link-index l.links)
+    ≡ map (place_linked (named_types l.types.entries)) l.links

@@ -21,7 +21,8 @@ returns-in-Some-clause-given g c =
 pub returns-then-asks_to_explain-clause-given : goal.returns-then-asks_to_explain-clause-given
 returns-then-asks_to_explain-clause-given g c =
     let file = c.args.file.now in
-    explain_given (situation file c.args.text.now) (situation file c.answer_explained.new.text) c.args.line.now
+    explain_given (situation file c.args.text.now) (situation file c.answer_explained.new.text)
+    c.args.line.now
     c.args.pen.now c.answer_explained.new.pen (g.S.Sink.state c.args.sink.now)
     (g.S.Sink.state c.answer_explained.new.sink) c.answer_explained.result c.requires.length
     (sym c.asks_to_explain.ensures ∙ c.if-asks_to_explain.true) c.answer_explained.ensures.given

@@ -23,7 +23,8 @@ pub returns-in_ok-renew-in_default-clause-given : goal.returns-in_ok-renew-in_de
 returns-in_ok-renew-in_default-clause-given g c = λ file.
     let new = situation file c.renew.new.text in
     subst (λ s. GivesBy (λ how here a. IsCommandAnswer how here c.args.command.now a) s new (Ok false)
-    c.args.pen.now (g.S.Sink.state c.args.sink.now) c.add_answer.new.pen (g.S.Sink.state c.add_answer.new.sink))
+    c.args.pen.now (g.S.Sink.state c.args.sink.now) c.add_answer.new.pen
+    (g.S.Sink.state c.add_answer.new.sink))
     (c.renew.ensures.same file)
     (asked_given c.args.pen.now c.add_answer.new.pen (g.S.Sink.state c.args.sink.now)
     (g.S.Sink.state c.add_answer.new.sink) new c.renew.new.text.session.known c.args.command.now
@@ -33,6 +34,7 @@ pub returns-in_err-renew-in_default-clause-given : goal.returns-in_err-renew-in_
 returns-in_err-renew-in_default-clause-given g c = λ file.
     let now = g.S.Sink.state c.args.sink.now in
     passed_on (λ r. GivesBy (λ how here a. IsCommandAnswer how here c.args.command.now a)
-    (situation file c.args.text.now) (situation file c.renew.new.text) r c.args.pen.now now c.args.pen.now now)
+    (situation file c.args.text.now) (situation file c.renew.new.text) r c.args.pen.now now
+    c.args.pen.now now)
     c.from_residual.result c.in_err-renew-in_default.field-0.0 c.from_residual.ensures.1
     (c.renew.ensures.same file)

@@ -21,6 +21,8 @@ returns-in-Ok c =
         };
         text = did.text i;
       };
-      before = moved_before old.files.items new.files.items old.from_c new.from_c old.session.text new.session.text
-          new.session.known (ap (λ v. v.items) did.files) did.from_c did.text (c.in-Ok.ensures.before c.requires);
+      before = moved_before old.files.items new.files.items old.from_c new.from_c old.session.text
+          new.session.text
+          new.session.known (ap (λ v. v.items) did.files) did.from_c did.text
+          (c.in-Ok.ensures.before c.requires);
     }

@@ -5,4 +5,5 @@ use Rattle.x_session.proofs.DeclaredLemmas.{HasTold}
 use Rattle.x_session.proofs.declared.definitions.Given as goal
 
 abbrev pub invariant-loop-item : goal.invariant-loop-item
-invariant-loop-item l = HasTold (λ i. parsed_definition i.parse) l.session.known l.session.text l.item (map tree_at l.list.items)
+invariant-loop-item l = HasTold (λ i. parsed_definition i.parse) l.session.known l.session.text l.item
+    (map tree_at l.list.items)

@@ -11,7 +11,8 @@ loop-index-preserved c name =
     let last = c.loop-index.auto.index in
     let next : later - 1 + 1 ≡ later = omega (arith, some) in
     let within : later - 1 < length lists = omega (arith, some, last) in
-    list_more lists (later - 1) later _ name (entry_in c.loop-index.table.entries name) (entry_in c.add_names.new.table.entries name)
+    list_more lists (later - 1) later _ name (entry_in c.loop-index.table.entries name)
+    (entry_in c.add_names.new.table.entries name)
     next within (c.loop-index.invariant name) (c.in_ok-add_names.ensures name)
 
 pub returns : goal.returns

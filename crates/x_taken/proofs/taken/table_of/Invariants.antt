@@ -4,4 +4,5 @@ use Rattle.x_taken.proofs.taken.table_of.Given as goal
 
 -- the table has the names of the lists from this one on
 abbrev pub invariant-loop-index : goal.invariant-loop-index
-invariant-loop-index l = (name : List ℕ) → entry_in l.table.entries name ≡ kind_in (view_lists (drop l.index l.lists)) name
+invariant-loop-index l = (name : List ℕ)
+    → entry_in l.table.entries name ≡ kind_in (view_lists (drop l.index l.lists)) name

@@ -36,4 +36,5 @@ pub returns-clause-counted : goal.returns-clause-counted
 returns-clause-counted c =
     let most = c.args.most in
     let told = c.args.told.items in
-    ok_then c.first_of.result (λ list is. ap (λ l. length l + left_out most told) is ∙ none_lost most told) (are c)
+    ok_then c.first_of.result (λ list is. ap (λ l. length l + left_out most told) is ∙ none_lost most told)
+    (are c)

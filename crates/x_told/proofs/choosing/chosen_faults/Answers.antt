@@ -16,7 +16,8 @@ returns c =
       told.1,
       told.2,
       (
-        subst (λ t. AreFound t (chosen most (told_of c.args.blanks c.args.shown.now told.1)) found) c.bytes.ensures
+        subst (λ t. AreFound t (chosen most (told_of c.args.blanks c.args.shown.now told.1)) found)
+            c.bytes.ensures
             (subst (λ l. AreFound c.bytes.result.now l found) places c.in_ok-list.ensures),
         omega (arith, long, left),
       ),

@@ -8,4 +8,5 @@ use Rattle.x_told.proofs.choosing.error_count.Goals as goal
 pub returns : goal.returns
 returns c =
     c.loop-fault.invariant.counted
-    ∙ ap (λ l. length (filter is_error l)) (take_all c.loop-fault.fault-index c.args.told.now c.loop-fault-test.false)
+    ∙ ap (λ l. length (filter is_error l))
+    (take_all c.loop-fault.fault-index c.args.told.now c.loop-fault-test.false)

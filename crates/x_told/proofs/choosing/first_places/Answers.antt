@@ -1,4 +1,5 @@
-use Rattle.std.proofs.Common.{◌≡◌, ◌++◌, ◌-◌, ◌≤◌, ◌∙◌, ◌∷◌, [], ap, append_assoc, arith, false, length, sym, true}
+use Rattle.std.proofs.Common.{◌≡◌, ◌++◌, ◌-◌, ◌≤◌, ◌∙◌, ◌∷◌, [], ap, append_assoc, arith, false, length, sym}
+use Rattle.std.proofs.Common.{true}
 use Rattle.std.specs.List.{filter}
 use Rattle.x_told.specs.Choosing.{chosen, is_error}
 use Rattle.x_told.proofs.ChosenLemmas.{enough_errors, room_behind}

@@ -2,7 +2,8 @@ use Rattle.std.proofs.Common.{◌≡◌, ◌<◌, ◌++◌, ◌∷◌, [], ◌�
 use Rattle.x_names.specs.DeclarerTable.{names_in}
 use Rattle.x_compile.specs.Compile.{places_of}
 use Rattle.x_session.specs.Session.{Compiles}
-use Rattle.x_told.proofs.HeardLemmas.{AreNames, IsHeard, IsToldNext, heard_next, heard_none, next_within, one_voice}
+use Rattle.x_told.proofs.HeardLemmas.{AreNames, IsHeard, IsToldNext, heard_next, heard_none, next_within}
+use Rattle.x_told.proofs.HeardLemmas.{one_voice}
 use Rattle.x_told.proofs.telling.told_by_names.Goals as goal
 
 pub loop-place-init : goal.loop-place-init

@@ -8,7 +8,10 @@ use Rattle.x_told.specs.Telling.{is_of_branch, is_of_faulty, told_of}
 use Rattle.x_told.proofs.ToldLemmas.{any_of_branch, is_free_by, same_free}
 use Rattle.x_told.proofs.SilentLemmas.{all_free}
 use Rattle.x_told.proofs.telling.told_faults.Goals as goal
-use Rattle.x_told.proofs.telling.told_faults.Goals.{else-has_repeat-via-then-has_repeat+else-has_use_of_faulty, else-has_repeat-via-else-has_repeat}
+use Rattle.x_told.proofs.telling.told_faults.Goals.{
+  else-has_repeat-via-then-has_repeat+else-has_use_of_faulty,
+}
+use Rattle.x_told.proofs.telling.told_faults.Goals.{else-has_repeat-via-else-has_repeat}
 
 pub returns-then-has_use_of_faulty : goal.returns-then-has_use_of_faulty
 returns-then-has_use_of_faulty c =
@@ -25,7 +28,8 @@ returns c =
     let items = found.1 in
     let places = places_of items in
     let say = c.in_ok-branches.ensures in
-    let none : (list_any (is_of_branch shown) places ≡ false) ⊎ (list_any (λ p. is_of_faulty p.code) places ≡ false) =
+    let none : (list_any (is_of_branch shown) places ≡ false)
+    ⊎ (list_any (λ p. is_of_faulty p.code) places ≡ false) =
     elim c.else-has_repeat.branch [
       | else-has_repeat-via-then-has_repeat+else-has_use_of_faulty w ↦
           inr (sym (w.has_use_of_faulty.ensures

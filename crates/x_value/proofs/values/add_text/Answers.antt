@@ -16,6 +16,7 @@ pub returns-else-eq-clause-added : goal.returns-else-eq-clause-added
 returns-else-eq-clause-added g c =
     let fault = c.in-Err.fault in (
       fault_line fault.at fault.code,
-      stuck fault.at fault.code c.in-Err.ensures.err (λ is. false_true (c.if-eq.ensures ∙ ap (λ code. sameb the_type code NoMemory) is)) refl refl,
+      stuck fault.at fault.code c.in-Err.ensures.err
+          (λ is. false_true (c.if-eq.ensures ∙ ap (λ code. sameb the_type code NoMemory) is)) refl refl,
       c.add_line.ensures,
     )

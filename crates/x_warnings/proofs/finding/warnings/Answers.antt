@@ -14,7 +14,8 @@ returns-then-is_empty c =
     let text = c.args.session.now.text in
     let are = clashes_are text (map tree_at c.deref.result.now) (taken_in c.in_ok-taken.taken) found
     c.token_count.result few c.token_count.ensures
-    (d.0, d.1, d.2, ap (map tree_at) c.deref.ensures.value ∙ d.3) c.in_ok-taken.ensures c.in_ok-found.ensures in
+    (d.0, d.1, d.2, ap (map tree_at) c.deref.ensures.value ∙ d.3) c.in_ok-taken.ensures
+    c.in_ok-found.ensures in
     none_are text found (map view_warning c.new.result.items)
     (empty_is found c.is_empty.result (c.is_empty.ensures ∙ ap (λ n. nat_eq n 0) c.in_ok-found.found.ok.0)
     c.if-is_empty.true)
@@ -28,6 +29,8 @@ returns c =
     let text = c.args.session.now.text in
     let are = clashes_are text (map tree_at c.deref.result.now) (taken_in c.in_ok-taken.taken) found
     c.token_count.result few c.token_count.ensures
-    (d.0, d.1, d.2, ap (map tree_at) c.deref.ensures.value ∙ d.3) c.in_ok-taken.ensures c.in_ok-found.ensures in
-    ok_then c.placed.result (λ list is. placed_are text found c.in_ok-table.table (map view_warning list.items) are
+    (d.0, d.1, d.2, ap (map tree_at) c.deref.ensures.value ∙ d.3) c.in_ok-taken.ensures
+    c.in_ok-found.ensures in
+    ok_then c.placed.result
+    (λ list is. placed_are text found c.in_ok-table.table (map view_warning list.items) are
     c.in_ok-table.ensures is) c.placed.ensures

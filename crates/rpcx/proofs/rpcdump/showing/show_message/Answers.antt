@@ -9,4 +9,11 @@ returns-in-Ok g c =
     let now = g.I.Tap.state c.read_all.new.input in
     let before = g.O.Sink.state c.args.out.now in
     let after = g.O.Sink.state c.dump_message.new.sink in
-    λ name. (read_whole start now c.in_ok-bytes.bytes.items (λ all. DumpsMessage c.args.schema.now all before after (Ok c.in-Ok.outcome)) c.in_ok-bytes.ensures.read (subst (λ t. DumpsMessage c.args.schema.now t before after (Ok c.in-Ok.outcome)) c.deref.ensures.value c.in-Ok.ensures.dumps), c.in_ok-bytes.ensures.read.working)
+    λ name. (
+      read_whole start now c.in_ok-bytes.bytes.items
+          (λ all. DumpsMessage c.args.schema.now all before after (Ok c.in-Ok.outcome))
+          c.in_ok-bytes.ensures.read
+          (subst (λ t. DumpsMessage c.args.schema.now t before after (Ok c.in-Ok.outcome))
+          c.deref.ensures.value c.in-Ok.ensures.dumps),
+      c.in_ok-bytes.ensures.read.working,
+    )

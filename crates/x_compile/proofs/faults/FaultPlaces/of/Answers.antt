@@ -11,5 +11,6 @@ invariant_of-result c =
     let ts = c.args.tokens.now.list in
     let items = items_of text ts c.args.items.now.entries.list in
     let left : faults_here c.none.result ++ c.of.result ≡ places_of items =
-    (λ i. map (found_at c.none.result.number) (c.none.ensures.none i) ++ (c.of.ensures ∙ ap (faults_behind text ts 0 0) c.iter-2.ensures.list) i) in
+    (λ i. map (found_at c.none.result.number) (c.none.ensures.none i)
+    ++ (c.of.ensures ∙ ap (faults_behind text ts 0 0) c.iter-2.ensures.list) i) in
     (c.none.ensures.telling, c.requires.count ∙ places_many text 0 items ∙ sym (ap length left))

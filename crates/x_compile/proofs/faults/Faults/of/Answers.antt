@@ -7,4 +7,5 @@ use Rattle.x_compile.proofs.faults.Faults.of.Goals as goal
 pub returns : goal.returns
 returns c =
     (λ i. map (in_lines (c.of-2.ensures i)) (c.of.ensures i))
-    ∙ in_lines_from c.args.source.now 0 (items_of c.args.source.now c.args.tokens.now.list c.args.items.now.entries.list)
+    ∙ in_lines_from c.args.source.now 0
+    (items_of c.args.source.now c.args.tokens.now.list c.args.items.now.entries.list)

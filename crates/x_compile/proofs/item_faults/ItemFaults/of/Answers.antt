@@ -9,5 +9,7 @@ returns-clause-faults c =
     let e = c.args.entry.now in
     let parse = kept_parse e.kept in
     let ruled = rule_faults (found_result (kept_found e.kept)) in
-    begun c.args.number c.of.result parse ruled c.told.result c.of.ensures.read c.of.ensures.words c.told.ensures
-    ∙ (λ i. map (place_in c.args.number (c.of.ensures.unread i)) (faults_at (c.of.ensures.unread i) parse ruled))
+    begun c.args.number c.of.result parse ruled c.told.result c.of.ensures.read c.of.ensures.words
+    c.told.ensures
+    ∙ (λ i. map (place_in c.args.number (c.of.ensures.unread i))
+    (faults_at (c.of.ensures.unread i) parse ruled))

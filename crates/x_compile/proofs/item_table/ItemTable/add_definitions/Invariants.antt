@@ -5,4 +5,5 @@ use Rattle.x_compile.proofs.item_table.ItemTable.add_definitions.Given as goal
 
 -- the definitions so far and those of the items that are left
 abbrev pub invariant-loop-entry : goal.invariant-loop-entry
-invariant-loop-entry l = map tree_at l.definitions.items ++ entry_definitions l.entry-iterator ≡ map tree_at l.fn.definitions.items ++ entry_definitions l.initial.entry-iterator
+invariant-loop-entry l = map tree_at l.definitions.items ++ entry_definitions l.entry-iterator
+    ≡ map tree_at l.fn.definitions.items ++ entry_definitions l.initial.entry-iterator

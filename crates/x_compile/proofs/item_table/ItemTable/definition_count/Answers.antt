@@ -11,7 +11,8 @@ loop-entry-preserved c =
     let all = c.loop-entry.invariant.all in
     let one = ap length c.in-Some.ensures.steps in
     let here = ap (λ l. length (numbered 0 (entry_definitions l))) c.in-Some.ensures.steps in
-    let none = count_none (kept_definition c.in-Some.entry.now.kept) (entry_definitions next) c.definition.result c.definition.ensures c.if-is_some.ensures in
+    let none = count_none (kept_definition c.in-Some.entry.now.kept) (entry_definitions next)
+    c.definition.result c.definition.ensures c.if-is_some.ensures in
     record { few = omega (arith, few, one); all = omega (arith, all, here, none) }
 
 pub loop-entry-preserved-then-is_some : goal.loop-entry-preserved-then-is_some
@@ -21,5 +22,6 @@ loop-entry-preserved-then-is_some c =
     let all = c.loop-entry.invariant.all in
     let one = ap length c.in-Some.ensures.steps in
     let here = ap (λ l. length (numbered 0 (entry_definitions l))) c.in-Some.ensures.steps in
-    let some = count_some (kept_definition c.in-Some.entry.now.kept) (entry_definitions next) c.definition.result c.definition.ensures c.if-is_some.ensures in
+    let some = count_some (kept_definition c.in-Some.entry.now.kept) (entry_definitions next)
+    c.definition.result c.definition.ensures c.if-is_some.ensures in
     record { few = omega (arith, few, one); all = omega (arith, all, here, some) }

@@ -8,5 +8,6 @@ use Rattle.x_compile.proofs.item_table.ItemTable.definition_count.Given as goal
 abbrev pub invariant-loop-entry : goal.invariant-loop-entry
 invariant-loop-entry l = record {
   few : l.count + length l.entry-iterator ≤ MAX_TEXT + 1;
-  all : l.count + length (numbered 0 (entry_definitions l.entry-iterator)) ≡ length (numbered 0 (entry_definitions l.initial.entry-iterator));
+  all : l.count + length (numbered 0 (entry_definitions l.entry-iterator))
+      ≡ length (numbered 0 (entry_definitions l.initial.entry-iterator));
 }

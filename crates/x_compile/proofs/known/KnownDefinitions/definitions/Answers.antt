@@ -16,5 +16,7 @@ pub returns-in-Some : goal.returns-in-Some
 returns-in-Some c =
     let es = c.in-Some.known.items.entries.list in
     subst (λ k. IfOk c.definitions.result (λ ds. map tree_at ds.items ≡ known_definitions k)) c.self.view_is
-    (subst (λ o. IfOk c.definitions.result (λ ds. map tree_at ds.items ≡ known_definitions (seen o))) (sym c.in-Some.is)
-    (subst (λ l. IfOk c.definitions.result (λ ds. map tree_at ds.items ≡ l)) (sym (definitions_known es)) c.definitions.ensures))
+    (subst (λ o. IfOk c.definitions.result (λ ds. map tree_at ds.items ≡ known_definitions (seen o)))
+    (sym c.in-Some.is)
+    (subst (λ l. IfOk c.definitions.result (λ ds. map tree_at ds.items ≡ l)) (sym (definitions_known es))
+    c.definitions.ensures))

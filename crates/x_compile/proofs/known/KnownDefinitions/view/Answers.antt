@@ -20,4 +20,5 @@ returns c =
     let name = c.args.name.now in
     subst (λ k. option_map view_view c.view.result ≡ known_names k name) c.self.view_is
     (subst (λ o. option_map view_view c.view.result ≡ known_names (seen o) name) c.in_ok-as_ref.ensures.value
-    (c.view.ensures ∙ ap (λ ds. names_known ds (result_at (entry_results es)) name) (sym (definitions_known es))))
+    (c.view.ensures ∙ ap (λ ds. names_known ds (result_at (entry_results es)) name)
+    (sym (definitions_known es))))

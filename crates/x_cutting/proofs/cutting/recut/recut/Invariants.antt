@@ -12,8 +12,11 @@ use Rattle.x_cutting.proofs.cutting.recut.recut.Given as goal
 
 abbrev pub invariant-cutting : goal.invariant-cutting
 invariant-cutting g l = record {
-  known : (change : Change) → IsRelexed change l.new l.tokens.list (counts l.items.list) l.patch → Ready change l.text l.tokens.list l.items.list l.patch l.kept l.start;
-  recutting : Recutting (counts l.items.list) (roles l.text (patched l.tokens.list l.patch)) l.patch.at (length l.patch.fresh) l.patch.removed l.kept l.start (counts l.fresh.items) l.index l.back l.back_index;
+  known : (change : Change) → IsRelexed change l.new l.tokens.list (counts l.items.list) l.patch
+      → Ready change l.text l.tokens.list l.items.list l.patch l.kept l.start;
+  recutting : Recutting (counts l.items.list) (roles l.text (patched l.tokens.list l.patch)) l.patch.at
+      (length l.patch.fresh) l.patch.removed l.kept l.start (counts l.fresh.items) l.index l.back
+      l.back_index;
   place_is : l.place ≡ end_of (patched l.tokens.list l.patch) l.index;
   blank : All (λ item. g.K.Default.is_default item.kept) l.fresh.items;
 }

@@ -6,5 +6,6 @@ use Rattle.x_explain.proofs.again.AgainNames.of.Given as goal
 
 -- the table has what is declared again from this item on
 abbrev pub invariant-loop-item : goal.invariant-loop-item
-invariant-loop-item l = (tokens : List (Kind × ℕ)) (items : List Item) → IsCompilation l.session.known l.session.text tokens items → (start : ℕ)
+invariant-loop-item l = (tokens : List (Kind × ℕ)) (items : List Item)
+    → IsCompilation l.session.known l.session.text tokens items → (start : ℕ)
     → entry_at l.table.entries start ≡ name_at (again_from items l.item (drop l.item items)) start

@@ -1,4 +1,5 @@
-use Rattle.std.proofs.Common.{◌≡◌, ◌<◌, ◌+◌, ◌∷◌, ◌++◌, [], arith, false, length, refl, set, take, true, ap, sym, subst, ◌∙◌}
+use Rattle.std.proofs.Common.{◌≡◌, ◌<◌, ◌+◌, ◌∷◌, ◌++◌, [], arith, false, length, refl, set, take, true, ap}
+use Rattle.std.proofs.Common.{sym, subst, ◌∙◌}
 use Rattle.std.proofs.lemmas.List.{length-replicate, length-set, take_all, take_more}
 use Rattle.x_explain.specs.Suggestions.{HasBytes}
 use Rattle.x_explain.proofs.ByteLemmas.{no_bytes, one_more}
@@ -18,9 +19,15 @@ loop-byte-preserved c =
     let more : take i all ++ c.from.result ∷ [] ≡ take (i + 1) all =
     ap (λ x. take i all ++ x ∷ []) c.from.ensures ∙ sym (take_more all i 0 c.loop-byte-test.true) in
     record {
-      known = subst (HasBytes (set has c.from.result true)) more (one_more has (take i all) c.from.result fits c.loop-byte.invariant.known);
+      known = subst (HasBytes (set has c.from.result true)) more
+          (one_more has (take i all) c.from.result fits c.loop-byte.invariant.known);
       full = length-set has c.from.result true ∙ full;
     }
 
 pub invariant_of-result : goal.invariant_of-result
-invariant_of-result c = record { known = subst (HasBytes c.loop-byte.has) (take_all c.loop-byte.byte-index c.args.bytes.now c.loop-byte-test.false) c.loop-byte.invariant.known }
+invariant_of-result c =
+    record {
+      known = subst (HasBytes c.loop-byte.has)
+          (take_all c.loop-byte.byte-index c.args.bytes.now c.loop-byte-test.false)
+          c.loop-byte.invariant.known;
+    }

@@ -1,4 +1,5 @@
-use Rattle.std.proofs.Common.{◌≡◌, ◌<◌, ◌+◌, ◌∷◌, ◌++◌, [], arith, cond, take, Bool, true, false, ◌∙◌, ap, sym}
+use Rattle.std.proofs.Common.{◌≡◌, ◌<◌, ◌+◌, ◌∷◌, ◌++◌, [], arith, cond, take, Bool, true, false, ◌∙◌, ap}
+use Rattle.std.proofs.Common.{sym}
 use Rattle.std.proofs.lemmas.List.{take_all, take_more}
 use Rattle.x_explain.specs.Suggestions.{strange, HasBytes}
 use Rattle.x_explain.proofs.ByteLemmas.{strange_more}
@@ -18,13 +19,15 @@ loop-byte-preserved c =
     take_more all i 0 c.loop-byte-test.true ∙ ap (λ x. take i all ++ x ∷ []) (sym is) in
     elim c.if-not-self-from.branch [
       | then-not-self-from w ↦
-          let one = ap (λ l. strange l word) more ∙ strange_more (take i all) word c.from.result false (sym had ∙ w.if-not-self-from.true) in
+          let one = ap (λ l. strange l word) more
+          ∙ strange_more (take i all) word c.from.result false (sym had ∙ w.if-not-self-from.true) in
           record {
             counted = w.count-is ∙ ap (λ n. n + 1) c.loop-byte.invariant.counted ∙ sym one;
             few = (let e = w.count-is in let f = c.loop-byte.invariant.few in omega (arith, e, f));
           }
       | else-not-self-from w ↦
-          let one = ap (λ l. strange l word) more ∙ strange_more (take i all) word c.from.result true (sym had ∙ w.if-not-self-from.false) in
+          let one = ap (λ l. strange l word) more
+          ∙ strange_more (take i all) word c.from.result true (sym had ∙ w.if-not-self-from.false) in
           record {
             counted = w.count-is ∙ c.loop-byte.invariant.counted ∙ (let z = one in omega (arith, z));
             few = (let e = w.count-is in let f = c.loop-byte.invariant.few in omega (arith, e, f));
@@ -34,4 +37,5 @@ loop-byte-preserved c =
 pub returns : goal.returns
 returns c =
     c.loop-byte.invariant.counted
-    ∙ ap (λ l. strange l c.args.self.now.bytes.now) (take_all c.loop-byte.byte-index c.args.name.now c.loop-byte-test.false)
+    ∙ ap (λ l. strange l c.args.self.now.bytes.now)
+    (take_all c.loop-byte.byte-index c.args.name.now c.loop-byte-test.false)

@@ -17,6 +17,7 @@ returns c =
       record {
         found = c.in_ok-found.found.items;
         are_found = f.3;
-        list_is = c.in_ok-list.ensures ∙ (λ i. map (suggested (c.bytes.ensures i) (named i)) (c.deref-2.ensures.value i));
+        list_is = c.in_ok-list.ensures
+            ∙ (λ i. map (suggested (c.bytes.ensures i) (named i)) (c.deref-2.ensures.value i));
       },
     )

@@ -9,9 +9,12 @@ loop-file-init g c = checks_none c.args.args.now.strict c.args.how.now (g.E.Sink
 pub loop-file-preserved : goal.loop-file-preserved
 loop-file-preserved g c =
     let state = g.E.Sink.state in
-    checks_next c.args.args.now.strict c.args.how.now c.deref-file-items.result.now c.loop-file.file-index _ (state c.args.err.now) (state c.loop-file.err)
-    (state c.begin_file.new.self) (state c.check_file.new.err) c.loop-file.status c.check_file.result c.worse-status.result
-    c.loop-file-test.true c.loop-file.invariant c.begin_file.ensures c.check_file.ensures c.worse-status.ensures.worse
+    checks_next c.args.args.now.strict c.args.how.now c.deref-file-items.result.now c.loop-file.file-index _
+    (state c.args.err.now) (state c.loop-file.err)
+    (state c.begin_file.new.self) (state c.check_file.new.err) c.loop-file.status c.check_file.result
+    c.worse-status.result
+    c.loop-file-test.true c.loop-file.invariant c.begin_file.ensures c.check_file.ensures
+    c.worse-status.ensures.worse
 
 pub returns : goal.returns
 returns g c =
@@ -19,5 +22,7 @@ returns g c =
     let how = c.args.how.now in
     let before = g.E.Sink.state c.args.err.now in
     let after = g.E.Sink.state c.loop-file.err in
-    let all = checks_all strict how c.deref-file-items.result.now c.loop-file.file-index before after c.loop-file.status c.loop-file-test.false c.loop-file.invariant in
-    subst (λ files. AreChecked strict how (map (λ f. f.now) files) before after c.loop-file.status) c.deref-file-items.ensures.value all
+    let all = checks_all strict how c.deref-file-items.result.now c.loop-file.file-index before after
+    c.loop-file.status c.loop-file-test.false c.loop-file.invariant in
+    subst (λ files. AreChecked strict how (map (λ f. f.now) files) before after c.loop-file.status)
+    c.deref-file-items.ensures.value all

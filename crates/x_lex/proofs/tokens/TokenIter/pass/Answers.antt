@@ -25,6 +25,7 @@ invariant_of-self c =
 
 pub returns : goal.returns
 returns c =
-    (λ i. lexemes_from c.self.inside.text.now (c.self.inside.at + c.pass.ensures.length i) (c.pass.ensures.left i))
+    (λ i. lexemes_from c.self.inside.text.now (c.self.inside.at + c.pass.ensures.length i)
+    (c.pass.ensures.left i))
     ∙ sym (lexemes_drop c.self.inside.text.now c.self.inside.at c.self.inside.entries c.args.count)
     ∙ ap (drop c.args.count) c.self.view_is

@@ -20,12 +20,14 @@ returns-clause-tokens c =
     let ts = c.args.self.now.list in
     let list = ap (λ v. v.list) c.self.view_is in
     let rest = c.iter_from.ensures.list ∙ ap (drop c.args.index) list in
-    (λ i. lexemes_from (c.bytes.ensures.text i) c.args.start (rest i)) ∙ lexemes_behind c.args.source.now ts c.args.index c.args.start c.requires.start
+    (λ i. lexemes_from (c.bytes.ensures.text i) c.args.start (rest i))
+    ∙ lexemes_behind c.args.source.now ts c.args.index c.args.start c.requires.start
 
 pub returns-clause-small : goal.returns-clause-small
 returns-clause-small c =
     let list = ap (λ v. v.list) c.self.view_is in
-    let count = length-lexemes_from c.bytes.result.now c.args.start c.iter_from.result ∙ ap length c.iter_from.ensures.list in
+    let count = length-lexemes_from c.bytes.result.now c.args.start c.iter_from.result
+    ∙ ap length c.iter_from.ensures.list in
     let left = length-drop c.args.index c.self.inside.entries.list in
     let few = c.self.invariant.few in
     omega (arith, count, left, few)

@@ -16,12 +16,18 @@ returns g c =
     let whole = length-spliced xs ys patch.at end within in
     let fits = c.requires.within in
     let from : c.min-from.result ≡ min index patch.at = let m = c.min-from.ensures in omega (arith, m, at) in
-    let into : c.min.result ≡ min (index - patch.at) (length ys) = let m = c.min.ensures in let l = c.len.ensures in omega (arith, m, l, from) in
-    let behind : c.len-4.result - (c.len-2.result - c.at-at.result - c.removed.result - c.saturating_sub.result) ≡ end + (index - patch.at - length ys) =
-    let a = c.len-4.ensures.count in let b = c.len-2.ensures.count in let r = c.removed.ensures in let s = c.saturating_sub.ensures in let n = c.len-3.ensures in
+    let into : c.min.result ≡ min (index - patch.at) (length ys) = let m = c.min.ensures in
+    let l = c.len.ensures in omega (arith, m, l, from) in
+    let behind : c.len-4.result - (c.len-2.result - c.at-at.result - c.removed.result
+    - c.saturating_sub.result) ≡ end + (index - patch.at - length ys) =
+    let a = c.len-4.ensures.count in let b = c.len-2.ensures.count in let r = c.removed.ensures in
+    let s = c.saturating_sub.ensures in let n = c.len-3.ensures in
     omega (arith, a, b, r, s, n, at, from, among, whole, fits) in
-    let first : take (c.at-at.result - c.min-from.result) c.iter_from.result ≡ take (patch.at - min index patch.at) (drop (min index patch.at) xs) = λ i. take (at i - from i) ((c.iter_from.ensures.list ∙ ap (λ n. drop n xs) from) i) in
-    let second : take (length c.fresh.result.now - c.min.result) (drop c.min.result c.fresh.result.now) ≡ drop (min (index - patch.at) (length ys)) ys =
+    let first : take (c.at-at.result - c.min-from.result) c.iter_from.result
+    ≡ take (patch.at - min index patch.at) (drop (min index patch.at) xs) =
+    λ i. take (at i - from i) ((c.iter_from.ensures.list ∙ ap (λ n. drop n xs) from) i) in
+    let second : take (length c.fresh.result.now - c.min.result) (drop c.min.result c.fresh.result.now)
+    ≡ drop (min (index - patch.at) (length ys)) ys =
     take_rest c.fresh.result.now c.min.result ∙ (λ i. drop (into i) (c.fresh.ensures i)) in
     let third = c.iter_from-rear.ensures.list ∙ ap (λ n. drop n xs) behind in
     c.new.ensures ∙ (λ i. first i ++ (second i ++ third i)) ∙ patched_from xs ys patch.at end index within

@@ -28,12 +28,22 @@ invariant_of-self g c =
     let fresh = c.into_fresh-fresh.ensures in
     let list : c.splice-moved.new.self.list ≡ patched c.args.self.now.list c.args.patch =
     c.splice-moved.ensures.list
-    ∙ ap (λ i. splice c.self.inside.entries.list i (i + c.removed-removed.result) c.into_fresh-fresh.result.items) c.at-at.ensures
-    ∙ ap (λ n. splice c.self.inside.entries.list c.args.patch.at (c.args.patch.at + n) c.into_fresh-fresh.result.items) c.removed-removed.ensures
-    ∙ ap (λ l. splice l c.args.patch.at (c.args.patch.at + c.args.patch.removed) c.into_fresh-fresh.result.items) old
-    ∙ ap (λ l. splice c.args.self.now.list c.args.patch.at (c.args.patch.at + c.args.patch.removed) l) fresh in
-    let seat : c.splice-moved.new.self.seat ≡ c.args.patch.at + length c.args.patch.fresh = c.splice-moved.ensures.seat ∙ ap (λ i. i + length c.into_fresh-fresh.result.items) c.at-at.ensures ∙ ap (λ l. c.args.patch.at + length l) fresh in
-    let place : c.start_of.result + c.total_length.result ≡ length_before size c.args.self.now.list c.args.patch.at + total_length size c.args.patch.fresh =
-    ap (λ n. n + c.total_length.result) (c.start_of.ensures ∙ ap (length_before size c.args.self.now.list) c.at-at.ensures)
-    ∙ ap (λ n. length_before size c.args.self.now.list c.args.patch.at + n) (c.total_length.ensures ∙ ap (total_length size) (c.deref.ensures.value ∙ fresh)) in
-    placed_put size c.args.self.now.list c.args.patch c.requires.among c.requires.short c.splice-moved.new.self (c.start_of.result + c.total_length.result) list seat place
+    ∙ ap (λ i. splice c.self.inside.entries.list i (i + c.removed-removed.result)
+    c.into_fresh-fresh.result.items) c.at-at.ensures
+    ∙ ap (λ n. splice c.self.inside.entries.list c.args.patch.at (c.args.patch.at + n)
+    c.into_fresh-fresh.result.items) c.removed-removed.ensures
+    ∙ ap (λ l. splice l c.args.patch.at (c.args.patch.at + c.args.patch.removed)
+    c.into_fresh-fresh.result.items) old
+    ∙ ap (λ l. splice c.args.self.now.list c.args.patch.at (c.args.patch.at + c.args.patch.removed) l)
+    fresh in
+    let seat : c.splice-moved.new.self.seat ≡ c.args.patch.at + length c.args.patch.fresh =
+    c.splice-moved.ensures.seat ∙ ap (λ i. i + length c.into_fresh-fresh.result.items) c.at-at.ensures
+    ∙ ap (λ l. c.args.patch.at + length l) fresh in
+    let place : c.start_of.result + c.total_length.result
+    ≡ length_before size c.args.self.now.list c.args.patch.at + total_length size c.args.patch.fresh =
+    ap (λ n. n + c.total_length.result)
+    (c.start_of.ensures ∙ ap (length_before size c.args.self.now.list) c.at-at.ensures)
+    ∙ ap (λ n. length_before size c.args.self.now.list c.args.patch.at + n) (c.total_length.ensures
+    ∙ ap (total_length size) (c.deref.ensures.value ∙ fresh)) in
+    placed_put size c.args.self.now.list c.args.patch c.requires.among c.requires.short
+    c.splice-moved.new.self (c.start_of.result + c.total_length.result) list seat place

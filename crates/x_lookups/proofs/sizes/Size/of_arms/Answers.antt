@@ -9,5 +9,6 @@ loop-index-preserved c =
     let cases = c.args.arms.now.cases in
     let i = c.loop-index.index in
     ap (λ s. with_cases sizes s (drop (i + 1) cases)) c.with_case-size.ensures
-    ∙ case_more sizes c.loop-index.size cases i (subst (λ n. i < n) c.case_count-index-end.ensures c.loop-index-test.true)
+    ∙ case_more sizes c.loop-index.size cases i
+    (subst (λ n. i < n) c.case_count-index-end.ensures c.loop-index-test.true)
     ∙ c.loop-index.invariant

@@ -3,8 +3,10 @@ use Rattle.x_names.proofs.DeclarerLaws.{first_seen}
 use Rattle.x_names.proofs.names.Names.first.Goals as goal
 
 pub returns-then-is_beforehand : goal.returns-then-is_beforehand
-returns-then-is_beforehand c = first_seen _ c.self.inside.table.entries c.args.name.now true c.self.view_is (sym c.is_beforehand.ensures ∙ c.if-is_beforehand.true)
+returns-then-is_beforehand c = first_seen _ c.self.inside.table.entries c.args.name.now true c.self.view_is
+    (sym c.is_beforehand.ensures ∙ c.if-is_beforehand.true)
 
 pub returns-else-is_beforehand : goal.returns-else-is_beforehand
 returns-else-is_beforehand c =
-    c.entry.ensures ∙ first_seen _ c.self.inside.table.entries c.args.name.now false c.self.view_is (sym c.is_beforehand.ensures ∙ c.if-is_beforehand.false)
+    c.entry.ensures ∙ first_seen _ c.self.inside.table.entries c.args.name.now false c.self.view_is
+    (sym c.is_beforehand.ensures ∙ c.if-is_beforehand.false)

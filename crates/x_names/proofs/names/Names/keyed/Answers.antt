@@ -4,4 +4,5 @@ use Rattle.x_names.proofs.DeclarerLaws.{first_by_search}
 use Rattle.x_names.proofs.names.Names.keyed.Goals as goal
 
 pub returns : goal.returns
-returns c short = first_by_search (map tree_at c.args.definitions.now) c.in_ok-table_of.field-0.entries (c.in_ok-table_of.ensures short)
+returns c short = first_by_search (map tree_at c.args.definitions.now) c.in_ok-table_of.field-0.entries
+    (c.in_ok-table_of.ensures short)

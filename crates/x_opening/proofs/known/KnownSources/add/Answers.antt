@@ -14,9 +14,11 @@ returns-clause-text c =
       lacking,
       c.in-Ok-Ok.of_types.items,
       subst (λ f. IsPrelude f c.args.from_c bytes lacking) c.deref.ensures.value c.in-Ok-Ok.ensures.lacking,
-      subst (λ f. IsPrelude f (types_only c.args.from_c) bytes c.in-Ok-Ok.of_types.items) c.deref-2.ensures.value
+      subst (λ f. IsPrelude f (types_only c.args.from_c) bytes c.in-Ok-Ok.of_types.items)
+          c.deref-2.ensures.value
           c.in-Ok-Ok.ensures'.lacking,
       c.in_ok-push.ensures.items ∙ ap (λ l. l ++ codes "\n") second,
-      ap (λ b. c.args.self.now.is_plain && b) (c.is_same.ensures ∙ ap (λ l. bytes_eq l c.deref-4.result.now) c.deref-3.ensures.value
+      ap (λ b. c.args.self.now.is_plain && b)
+          (c.is_same.ensures ∙ ap (λ l. bytes_eq l c.deref-4.result.now) c.deref-3.ensures.value
           ∙ ap (λ l. bytes_eq lacking l) c.deref-4.ensures.value),
     )

@@ -27,8 +27,10 @@ returns-in_err-session-clause-told g c =
     let after = state c.open.new.err in
     passed_on (λ r. IfErr r (NotKnown style program (state c.args.err.now) after))
     c.from_residual-in_err-session.result c.in_err-session.field-0.0 c.from_residual-in_err-session.ensures.1
-    (not_known style c.loop-name.known _ program _ c.deref.result.now state c.args.err.now c.read_text.new.err after
-    c.in_err-session.field-0.0 (c.in_ok-bytes.ensures.quiet ∙ c.loop-name.invariant.0) c.in_err-session.ensures.opened)
+    (not_known style c.loop-name.known _ program _ c.deref.result.now state c.args.err.now
+    c.read_text.new.err after
+    c.in_err-session.field-0.0 (c.in_ok-bytes.ensures.quiet ∙ c.loop-name.invariant.0)
+    c.in_err-session.ensures.opened)
 
 pub returns-then-is_err-clause-told : goal.returns-then-is_err-clause-told
 returns-then-is_err-clause-told g c =
@@ -43,8 +45,10 @@ loop-name-preserved g c =
     c.in_ok-session.session c.in_ok-session.ensures.opened in
     let added = sym c.is_err.ensures.value ∙ c.if-is_err.false in (
       c.in_ok-session.ensures.quiet ∙ c.in_ok-bytes.ensures.quiet ∙ c.loop-name.invariant.0,
-      reads_more _ c.deref-name-items.result.now c.loop-name.name-index _ c.loop-name.known c.add.new.self _ _ c.loop-name-test.true
-          c.loop-name.invariant.1 refl parts.0 parts.1 (parts.2 ∙ c.deref.ensures.value ∙ sym c.deref-in-loop-name.ensures.value) (on_ok c.add.result added c.add.ensures.files)
+      reads_more _ c.deref-name-items.result.now c.loop-name.name-index _ c.loop-name.known c.add.new.self _ _
+          c.loop-name-test.true
+          c.loop-name.invariant.1 refl parts.0 parts.1 (parts.2 ∙ c.deref.ensures.value
+          ∙ sym c.deref-in-loop-name.ensures.value) (on_ok c.add.result added c.add.ensures.files)
           (on_ok c.add.result added c.add.ensures.text),
     )
 

@@ -10,5 +10,6 @@ invariant-arms-loop-arm l =
 
 abbrev pub invariant-declarations-loop-declaration : goal.invariant-declarations-loop-declaration
 invariant-declarations-loop-declaration l =
-    (to : Stand) → GoesFields (stand l.self l.contents) to (view_declarations (drop l.declaration-index l.declarations))
+    (to : Stand) → GoesFields (stand l.self l.contents) to
+    (view_declarations (drop l.declaration-index l.declarations))
     → GoesFields (stand l.fn.self l.fn.contents) to (view_declarations l.declarations)

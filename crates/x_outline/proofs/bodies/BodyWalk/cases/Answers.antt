@@ -16,17 +16,26 @@ loop-value-preserved c to h =
     let item = c.value-item.result in
     let rest = drop (c.loop-value.value-index + 1) c.args.cases.now in
     let front : drop c.loop-value.value-index c.args.cases.now ≡ item ∷ rest =
-    drop_more c.args.cases.now c.loop-value.value-index _ c.loop-value-test.true ∙ ap (λ x. x ∷ rest) (sym c.value-item.is) in
+    drop_more c.args.cases.now c.loop-value.value-index _ c.loop-value-test.true
+    ∙ ap (λ x. x ∷ rest) (sym c.value-item.is) in
     let before = c.loop-value.contents in
-    let contents : Contents = record { fields = before.fields; cases = c.push.new.self; behind_discriminant = before.behind_discriminant } in
+    let contents : Contents =
+    record {
+      fields = before.fields;
+      cases = c.push.new.self;
+      behind_discriminant = before.behind_discriminant;
+    } in
     c.loop-value.invariant to
     (subst (λ xs. GoesCases (stand c.loop-value.self before) to (map view_value xs)) (sym front)
     (goes_cases (view_value item) (map view_value rest) (c.skip.ensures _ _)
-    (goes_value (stand c.skip.new.self before) (stand c.skip.new.self contents) (view_value item) refl refl refl
+    (goes_value (stand c.skip.new.self before) (stand c.skip.new.self contents)
+    (view_value item) refl refl refl
     (ap (map view_value_at) c.in_ok-push.ensures.items ∙ map_append view_value_at before.cases.items _))
     (c.skip-in-loop-value.ensures _ _) h))
 
 pub returns : goal.returns
 returns c =
     c.loop-value.invariant (stand c.loop-value.self c.loop-value.contents)
-    (subst (λ xs. GoesCases (stand c.loop-value.self c.loop-value.contents) (stand c.loop-value.self c.loop-value.contents) (map view_value xs)) (sym (drop_all _ _ c.loop-value-test.false)) (goes_none _))
+    (subst (λ xs. GoesCases (stand c.loop-value.self c.loop-value.contents)
+    (stand c.loop-value.self c.loop-value.contents) (map view_value xs))
+    (sym (drop_all _ _ c.loop-value-test.false)) (goes_none _))

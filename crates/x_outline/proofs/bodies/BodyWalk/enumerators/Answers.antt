@@ -7,6 +7,8 @@ use Rattle.x_outline.proofs.bodies.BodyWalk.enumerators.Goals as goal
 
 pub returns-in-Some : goal.returns-in-Some
 returns-in-Some c =
-    subst (λ xs. Passes c.args.self.now c.other_enumerators.new.self (length (spell_enumerators (map view_enumerator xs)))) (sym c.in-Some.ensures.cases.0)
-    (passes_enumerators c.args.self.now c.skip.new.self c.other_enumerators.new.self (view_enumerator c.in-Some.first.now) (map view_enumerator c.in-Some.others.now) _
+    subst (λ xs. Passes c.args.self.now c.other_enumerators.new.self
+    (length (spell_enumerators (map view_enumerator xs)))) (sym c.in-Some.ensures.cases.0)
+    (passes_enumerators c.args.self.now c.skip.new.self c.other_enumerators.new.self
+    (view_enumerator c.in-Some.first.now) (map view_enumerator c.in-Some.others.now) _
     c.words_of_enumerator.ensures c.skip.ensures c.other_enumerators.ensures)

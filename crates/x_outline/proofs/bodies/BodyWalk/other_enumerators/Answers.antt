@@ -14,12 +14,18 @@ loop-enumerator-preserved c to h =
     let item = c.enumerator-item.result in
     let rest = drop (c.loop-enumerator.enumerator-index + 1) c.args.enumerators.now in
     let front : drop c.loop-enumerator.enumerator-index c.args.enumerators.now ≡ item ∷ rest =
-    drop_more c.args.enumerators.now c.loop-enumerator.enumerator-index _ c.loop-enumerator-test.true ∙ ap (λ x. x ∷ rest) (sym c.enumerator-item.is) in
+    drop_more c.args.enumerators.now c.loop-enumerator.enumerator-index _ c.loop-enumerator-test.true
+    ∙ ap (λ x. x ∷ rest) (sym c.enumerator-item.is) in
     c.loop-enumerator.invariant to
-    (subst (λ xs. Passes c.loop-enumerator.self to (length (spell_other_enumerators (map view_enumerator xs)))) (sym front)
-    (passes_enumerator c.loop-enumerator.self c.skip.new.self c.skip-in-loop-enumerator.new.self to (view_enumerator item) (map view_enumerator rest) _ c.words_of_enumerator.ensures c.skip.ensures c.skip-in-loop-enumerator.ensures h))
+    (subst (λ xs. Passes c.loop-enumerator.self to
+    (length (spell_other_enumerators (map view_enumerator xs)))) (sym front)
+    (passes_enumerator c.loop-enumerator.self c.skip.new.self c.skip-in-loop-enumerator.new.self to
+    (view_enumerator item) (map view_enumerator rest) _ c.words_of_enumerator.ensures c.skip.ensures
+    c.skip-in-loop-enumerator.ensures h))
 
 pub returns : goal.returns
 returns c =
     c.loop-enumerator.invariant c.loop-enumerator.self
-    (subst (λ xs. Passes c.loop-enumerator.self c.loop-enumerator.self (length (spell_other_enumerators (map view_enumerator xs)))) (sym (drop_all _ _ c.loop-enumerator-test.false)) (λ fields cases. goes_none _))
+    (subst (λ xs. Passes c.loop-enumerator.self c.loop-enumerator.self
+    (length (spell_other_enumerators (map view_enumerator xs))))
+    (sym (drop_all _ _ c.loop-enumerator-test.false)) (λ fields cases. goes_none _))

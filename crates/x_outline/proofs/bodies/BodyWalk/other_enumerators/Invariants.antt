@@ -7,5 +7,6 @@ use Rattle.x_outline.proofs.bodies.BodyWalk.other_enumerators.Given as goal
 
 abbrev pub invariant-loop-enumerator : goal.invariant-loop-enumerator
 invariant-loop-enumerator l =
-    (to : BodyWalk) → Passes l.self to (length (spell_other_enumerators (map view_enumerator (drop l.enumerator-index l.enumerators))))
+    (to : BodyWalk) → Passes l.self to
+    (length (spell_other_enumerators (map view_enumerator (drop l.enumerator-index l.enumerators))))
     → Passes l.fn.self to (length (spell_other_enumerators (map view_enumerator l.enumerators)))

@@ -8,4 +8,5 @@ use Rattle.x_outline.proofs.parts.Members.name.Goals as goal
 pub returns : goal.returns
 returns c =
     let to : Members = record { names = c.push.new.self; numbers = c.args.self.now.numbers } in
-    adds_name c.args.word c.args.self.now to c.args.name.now (ap (map view_name_at) c.in_ok-push.ensures.items ∙ map_append view_name_at c.args.self.now.names.items _) refl
+    adds_name c.args.word c.args.self.now to c.args.name.now (ap (map view_name_at) c.in_ok-push.ensures.items
+    ∙ map_append view_name_at c.args.self.now.names.items _) refl

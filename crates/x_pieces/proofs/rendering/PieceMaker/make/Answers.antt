@@ -11,8 +11,12 @@ returns c =
     let headers = rw (c.deref-2.ensures.value, types) at c.in_ok-add_headers.ensures in
     let routines = rw (c.deref-3.ensures.value, types) at c.in_ok-add_routines.ensures in
     IfOk-weaker c.copied.result _ _
-    (λ pieces is. is ∙ grown_is _ _ _ _ _ _ _ _ _ _ _ forwards (then _ _ _ _ _ headers c.in_ok-add_own_header.ensures)
-    (then _ _ _ _ _ routines c.in_ok-add_own_routines.ensures) c.in_ok-add_stubs.ensures c.in_ok-add_tables.ensures
-    (c.len-forward.ensures ∙ c.add_forwards.new.text.ok.0) (c.len-header.ensures ∙ c.add_own_header.new.text.ok.0)
-    (c.len-routines.ensures ∙ c.add_own_routines.new.text.ok.0) (c.len-stubs.ensures ∙ c.add_stubs.new.text.ok.0))
+    (λ pieces is. is ∙ grown_is _ _ _ _ _ _ _ _ _ _ _ forwards
+    (then _ _ _ _ _ headers c.in_ok-add_own_header.ensures)
+    (then _ _ _ _ _ routines c.in_ok-add_own_routines.ensures) c.in_ok-add_stubs.ensures
+    c.in_ok-add_tables.ensures
+    (c.len-forward.ensures ∙ c.add_forwards.new.text.ok.0) (c.len-header.ensures
+    ∙ c.add_own_header.new.text.ok.0)
+    (c.len-routines.ensures ∙ c.add_own_routines.new.text.ok.0) (c.len-stubs.ensures
+    ∙ c.add_stubs.new.text.ok.0))
     (rw c.deref-4.ensures.value at c.copied.ensures)

@@ -11,7 +11,8 @@ units_behind-requires-clause-units c =
     c.self.invariant.2.units_are
     ∙ ap (λ n. units_before e (first_line (drop n text)) c.self.inside.bytes) same
     ∙ ap (λ l. units_before e l c.self.inside.bytes)
-    (sym (content_of text c.args.line.start c.args.line.length (c.requires.line.length_is ∙ ap (λ v. length (first_line (drop c.args.line.start v.text))) (sym c.self.view_is))))
+    (sym (content_of text c.args.line.start c.args.line.length (c.requires.line.length_is
+    ∙ ap (λ v. length (first_line (drop c.args.line.start v.text))) (sym c.self.view_is))))
 
 pub returns-then-self-bytes-clause-units : goal.returns-then-self-bytes-clause-units
 returns-then-self-bytes-clause-units c =
@@ -19,8 +20,10 @@ returns-then-self-bytes-clause-units c =
     let text = c.self.inside.text.now in
     c.units_behind.ensures.units
     ∙ ap (λ l. units_before e l c.args.bytes)
-    (content_of text c.args.line.start c.args.line.length (c.requires.line.length_is ∙ ap (λ v. length (first_line (drop c.args.line.start v.text))) (sym c.self.view_is)))
-    ∙ ap (λ v. units_before v.encoding (first_line (drop c.args.line.start v.text)) c.args.bytes) c.self.view_is
+    (content_of text c.args.line.start c.args.line.length (c.requires.line.length_is
+    ∙ ap (λ v. length (first_line (drop c.args.line.start v.text))) (sym c.self.view_is)))
+    ∙ ap (λ v. units_before v.encoding (first_line (drop c.args.line.start v.text)) c.args.bytes)
+    c.self.view_is
 
 pub returns-else-line-self-clause-units : goal.returns-else-line-self-clause-units
 returns-else-line-self-clause-units c =
@@ -28,5 +31,7 @@ returns-else-line-self-clause-units c =
     let text = c.self.inside.text.now in
     c.units_behind-else-line-self.ensures.units
     ∙ ap (λ l. units_before e l c.args.bytes)
-    (content_of text c.args.line.start c.args.line.length (c.requires.line.length_is ∙ ap (λ v. length (first_line (drop c.args.line.start v.text))) (sym c.self.view_is)))
-    ∙ ap (λ v. units_before v.encoding (first_line (drop c.args.line.start v.text)) c.args.bytes) c.self.view_is
+    (content_of text c.args.line.start c.args.line.length (c.requires.line.length_is
+    ∙ ap (λ v. length (first_line (drop c.args.line.start v.text))) (sym c.self.view_is)))
+    ∙ ap (λ v. units_before v.encoding (first_line (drop c.args.line.start v.text)) c.args.bytes)
+    c.self.view_is

@@ -9,8 +9,11 @@ pub returns-then-found-at-clause-position : goal.returns-then-found-at-clause-po
 returns-then-found-at-clause-position c =
     let e = c.args.self.now.encoding in
     let text = c.args.text.now in
-    sym (c.last_before-found.ensures.spot e text (subst (All (IsWaymark e text)) (sym c.deref.ensures.value) c.requires.faults)).position_is ∙ ap (position_of e text) c.if-found-at.true ∙ clamped e text c.args.at c.min-at.result c.min-at.ensures
+    sym (c.last_before-found.ensures.spot e text
+    (subst (All (IsWaymark e text)) (sym c.deref.ensures.value) c.requires.faults)).position_is
+    ∙ ap (position_of e text) c.if-found-at.true ∙ clamped e text c.args.at c.min-at.result c.min-at.ensures
 
 pub returns-clause-position : goal.returns-clause-position
 returns-clause-position c =
-    sym c.spot_from.ensures.spot.position_is ∙ clamped c.args.self.now.encoding c.args.text.now c.args.at c.min-at.result c.min-at.ensures
+    sym c.spot_from.ensures.spot.position_is
+    ∙ clamped c.args.self.now.encoding c.args.text.now c.args.at c.min-at.result c.min-at.ensures

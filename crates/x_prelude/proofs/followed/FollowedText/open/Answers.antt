@@ -9,7 +9,8 @@ use Rattle.x_prelude.specs.Before.{IsCrowded, IsKnownOf}
 use Rattle.x_prelude.specs.Prelude.{prelude}
 use Rattle.x_prelude.proofs.BeforeLemmas.{crowds, is_before, is_prelude, no_items, passed_on, same_error}
 use Rattle.x_prelude.proofs.followed.FollowedText.open.Goals as goal
-use Rattle.x_prelude.proofs.followed.FollowedText.open.Goals.{then-not-is_empty+in_ok-session-2, else-not-is_empty}
+use Rattle.x_prelude.proofs.followed.FollowedText.open.Goals.{then-not-is_empty+in_ok-session-2}
+use Rattle.x_prelude.proofs.followed.FollowedText.open.Goals.{else-not-is_empty}
 
 pub returns-in_err-session-2-clause-large : goal.returns-in_err-session-2-clause-large
 returns-in_err-session-2-clause-large c =

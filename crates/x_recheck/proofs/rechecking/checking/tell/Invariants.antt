@@ -1,15 +1,16 @@
 use Rattle.std.proofs.Common.{◌≡◌, ◌<◌, ◌+◌, ℕ, Some, length, slice_get}
 use Rattle.x_trees.specs.declared.names.declared_name.DeclaredName.{DeclaredName}
 use Rattle.x_recheck.specs.Editing.{definitions_after}
-use Rattle.x_recheck.specs.Rechecking.{AddsItems, IsWaitedFor, edit_of, is_waiting}
+use Rattle.x_recheck.specs.inside.Deciding.{AddsItems, IsWaitedFor, text_edit, is_waiting}
 use Rattle.x_recheck.proofs.OutlineNames.{declared_name}
 use Rattle.x_recheck.proofs.rechecking.checking.tell.Given as goal
 
 -- the users of the names so far wait that have to
 abbrev pub invariant-loop-place : goal.invariant-loop-place
 invariant-loop-place g l =
-    let e = edit_of g.L.CheckedItems.text l.items in
+    let e = text_edit g.L.CheckedItems.text l.items in
     record {
       adds : AddsItems l.initial.queue l.queue (l.item + 1) (length (definitions_after e));
-      told : (i : ℕ) (d : DeclaredName) → i < l.place → slice_get l.names i ≡ Some d → IsWaitedFor e l.item i l.checked (is_waiting l.queue) (declared_name d);
+      told : (i : ℕ) (d : DeclaredName) → i < l.place → slice_get l.names i ≡ Some d
+          → IsWaitedFor e l.item i l.checked (is_waiting l.queue) (declared_name d);
     }

@@ -13,8 +13,10 @@ pub returns : goal.returns
 returns c =
     let number = c.args.number in
     let list = c.as_slice-list.result.now in
-    let position = c.binary_search_by_key.ensures.position (λ y. y) (answers_always _ _ _ (λ f a r q k. search rules)) in
+    let position = c.binary_search_by_key.ensures.position (λ y. y)
+    (answers_always _ _ _ (λ f a r q k. search rules)) in
     let up = subst AreAscending (sym c.as_slice-list.ensures.value) c.self.invariant in
-    c.is_ok.ensures.value ∙ found_number (to_z w128 (of_z w128 number)) list c.binary_search_by_key.result up c.binary_search_by_key.ensures.bound position
+    c.is_ok.ensures.value ∙ found_number (to_z w128 (of_z w128 number)) list c.binary_search_by_key.result up
+    c.binary_search_by_key.ensures.bound position
     ∙ ap (λ n. list_any (int_eq n) list) (to_z-of_z w128 number c.ranges.number)
     ∙ ap (list_any (int_eq number)) (c.as_slice-list.ensures.value ∙ c.self.view_is)

@@ -6,7 +6,9 @@ use Rattle.x_rules.proofs.numbers.Numbers.of.Goals as goal
 
 pub invariant_of-result : goal.invariant_of-result
 invariant_of-result c =
-    subst AreAscending (sym (c.in_ok-from_vec.ensures ∙ dedup_is _ _ _ c.dedup.ensures.filtered)) (sorted_ascends _ c.sort_unstable.ensures.sorted)
+    subst AreAscending (sym (c.in_ok-from_vec.ensures ∙ dedup_is _ _ _ c.dedup.ensures.filtered))
+    (sorted_ascends _ c.sort_unstable.ensures.sorted)
 
 pub returns : goal.returns
-returns c = c.in_ok-from_vec.ensures ∙ dedup_is _ _ _ c.dedup.ensures.filtered ∙ sorted_is_set _ _ c.sort_unstable.ensures.permutation c.sort_unstable.ensures.sorted
+returns c = c.in_ok-from_vec.ensures ∙ dedup_is _ _ _ c.dedup.ensures.filtered
+    ∙ sorted_is_set _ _ c.sort_unstable.ensures.permutation c.sort_unstable.ensures.sorted

@@ -11,5 +11,7 @@ use Rattle.x_rules.proofs.rules.cases.add_case_faults.Given as goal
 abbrev pub invariant-loop-case : goal.invariant-loop-case
 invariant-loop-case l =
     (all : List EnumeratorAt) (known : List Known) → HasNumbers l.constants all known
-    → l.faults.items ++ case_faults (seen_by l.sights) known (kept_class l.class) (map view_value_at (drop l.case-index l.cases))
-    ≡ l.fn.faults.items ++ case_faults (seen_by l.sights) known (kept_class l.class) (map view_value_at l.cases)
+    → l.faults.items ++ case_faults (seen_by l.sights) known (kept_class l.class)
+    (map view_value_at (drop l.case-index l.cases))
+    ≡ l.fn.faults.items ++ case_faults (seen_by l.sights) known (kept_class l.class)
+    (map view_value_at l.cases)

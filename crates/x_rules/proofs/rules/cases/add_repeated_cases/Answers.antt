@@ -13,12 +13,18 @@ loop-body-preserved c all known h =
     let bs = c.args.bodies.now in
     let here = c.body-item.result in
     let now = c.loop-body.faults.items in
-    let is : drop at bs ≡ here ∷ drop (at + 1) bs = drop_more bs at _ c.loop-body-test.true ∙ ap (λ x. x ∷ drop (at + 1) bs) (sym c.body-item.is) in
-    listed_more (λ b. repeated_cases (seen_by c.args.sights.now) known (map view_value_at b.cases.items)) now c.add_repeated_numbers.new.faults.items (drop at bs) here (drop (at + 1) bs) _ is
-    (c.in_ok-add_repeated_numbers.ensures ∙ ap (λ l. now ++ repeated_numbers codes.RepeatedCase l) (c.deref-in-loop-body.ensures.value ∙ c.in_ok-numbers.ensures all known h)
-    ∙ ap (λ l. now ++ repeated_cases (seen_by c.args.sights.now) known (map view_value_at l)) c.deref.ensures.value)
+    let is : drop at bs ≡ here ∷ drop (at + 1) bs = drop_more bs at _ c.loop-body-test.true
+    ∙ ap (λ x. x ∷ drop (at + 1) bs) (sym c.body-item.is) in
+    listed_more (λ b. repeated_cases (seen_by c.args.sights.now) known (map view_value_at b.cases.items)) now
+    c.add_repeated_numbers.new.faults.items (drop at bs) here (drop (at + 1) bs) _ is
+    (c.in_ok-add_repeated_numbers.ensures ∙ ap (λ l. now ++ repeated_numbers codes.RepeatedCase l)
+    (c.deref-in-loop-body.ensures.value ∙ c.in_ok-numbers.ensures all known h)
+    ∙ ap (λ l. now ++ repeated_cases (seen_by c.args.sights.now) known (map view_value_at l))
+    c.deref.ensures.value)
     (c.loop-body.invariant all known h)
 
 pub returns : goal.returns
 returns c all known h =
-    listed_all (λ b. repeated_cases (seen_by c.args.sights.now) known (map view_value_at b.cases.items)) c.loop-body.faults.items _ _ (drop_none c.args.bodies.now c.loop-body.body-index c.loop-body-test.false) (c.loop-body.invariant all known h)
+    listed_all (λ b. repeated_cases (seen_by c.args.sights.now) known (map view_value_at b.cases.items))
+    c.loop-body.faults.items _ _ (drop_none c.args.bodies.now c.loop-body.body-index c.loop-body-test.false)
+    (c.loop-body.invariant all known h)

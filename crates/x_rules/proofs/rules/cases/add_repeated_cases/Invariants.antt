@@ -11,5 +11,7 @@ use Rattle.x_rules.proofs.rules.cases.add_repeated_cases.Given as goal
 abbrev pub invariant-loop-body : goal.invariant-loop-body
 invariant-loop-body l =
     (all : List EnumeratorAt) (known : List Known) → HasNumbers l.constants all known
-    → l.faults.items ++ flat_map (λ b. repeated_cases (seen_by l.sights) known (map view_value_at b.cases.items)) (drop l.body-index l.bodies)
-    ≡ l.fn.faults.items ++ flat_map (λ b. repeated_cases (seen_by l.sights) known (map view_value_at b.cases.items)) l.bodies
+    → l.faults.items ++ flat_map (λ b. repeated_cases (seen_by l.sights) known
+    (map view_value_at b.cases.items)) (drop l.body-index l.bodies)
+    ≡ l.fn.faults.items ++ flat_map
+    (λ b. repeated_cases (seen_by l.sights) known (map view_value_at b.cases.items)) l.bodies

@@ -10,4 +10,5 @@ use Rattle.x_rules.proofs.rules.cases.case_numbers.Given as goal
 abbrev pub invariant-loop-case : goal.invariant-loop-case
 invariant-loop-case l =
     (all : List EnumeratorAt) (known : List Known) → HasNumbers l.constants all known
-    → l.list.items ++ case_numbers (seen_by l.sights) known (map view_value_at (drop l.case-index l.cases)) ≡ case_numbers (seen_by l.sights) known (map view_value_at l.cases)
+    → l.list.items ++ case_numbers (seen_by l.sights) known (map view_value_at (drop l.case-index l.cases))
+    ≡ case_numbers (seen_by l.sights) known (map view_value_at l.cases)

@@ -11,5 +11,6 @@ use Rattle.x_rules.proofs.rules.classes.enum_numbers.Given as goal
 abbrev pub invariant-loop-enumerator : goal.invariant-loop-enumerator
 invariant-loop-enumerator l =
     (all : List EnumeratorAt) (known : List Known) → HasNumbers l.constants all known
-    → with_all l.numbers.items (map (λ e. enum_number (number_named known e.name)) (map view_enumerator (drop l.enumerator-index l.enumerators)))
+    → with_all l.numbers.items (map (λ e. enum_number (number_named known e.name))
+    (map view_enumerator (drop l.enumerator-index l.enumerators)))
     ≡ if_all (map (λ e. enum_number (number_named known e.name)) (map view_enumerator l.enumerators))

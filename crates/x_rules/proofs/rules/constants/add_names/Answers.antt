@@ -17,18 +17,31 @@ loop-enumerator-preserved c to h =
     let item = c.enumerator-item.result in
     let rest = drop (c.loop-enumerator.enumerator-index + 1) c.args.enumerators.now in
     let front : drop c.loop-enumerator.enumerator-index c.args.enumerators.now ≡ item ∷ rest =
-    drop_more c.args.enumerators.now c.loop-enumerator.enumerator-index _ c.loop-enumerator-test.true ∙ ap (λ x. x ∷ rest) (sym c.enumerator-item.is) in
+    drop_more c.args.enumerators.now c.loop-enumerator.enumerator-index _ c.loop-enumerator-test.true
+    ∙ ap (λ x. x ∷ rest) (sym c.enumerator-item.is) in
     let word = c.loop-enumerator.word in
     let is_first = c.loop-enumerator.is_first in
     let list = map view_enumerator_at c.loop-enumerator.list.items in
     let before : Walked EnumeratorAt = record { word = word; list = list } in
-    let x : EnumeratorAt = record { word = word; name = item.name.items; given = (view_enumerator item).value; is_first = is_first } in
+    let x : EnumeratorAt =
+    record {
+      word = word;
+      name = item.name.items;
+      given = (view_enumerator item).value;
+      is_first = is_first;
+    } in
     c.loop-enumerator.invariant to
     (subst (λ xs. GoesNames before to is_first (map view_enumerator xs)) (sym front)
-    (goes_names word c.saturating_add-word.result c.words_of_enumerator.result list (map view_enumerator_at c.push.new.self.items) x (view_enumerator item) (map view_enumerator rest) refl
-    c.words_of_enumerator.ensures (rw c.saturating_add.ensures at c.saturating_add-word.ensures) (ap (map view_enumerator_at) c.in_ok-push.ensures.items ∙ map_append view_enumerator_at c.loop-enumerator.list.items _) h))
+    (goes_names word c.saturating_add-word.result c.words_of_enumerator.result list
+    (map view_enumerator_at c.push.new.self.items) x (view_enumerator item) (map view_enumerator rest) refl
+    c.words_of_enumerator.ensures (rw c.saturating_add.ensures at c.saturating_add-word.ensures)
+    (ap (map view_enumerator_at) c.in_ok-push.ensures.items
+    ∙ map_append view_enumerator_at c.loop-enumerator.list.items _) h))
 
 pub returns : goal.returns
 returns c =
-    let here : Walked EnumeratorAt = record { word = c.loop-enumerator.word; list = map view_enumerator_at c.loop-enumerator.list.items } in
-    (c.loop-enumerator.invariant here (subst (λ xs. GoesNames here here c.loop-enumerator.is_first (map view_enumerator xs)) (sym (drop_all _ _ c.loop-enumerator-test.false)) (finds_none here))).list
+    let here : Walked EnumeratorAt =
+    record { word = c.loop-enumerator.word; list = map view_enumerator_at c.loop-enumerator.list.items } in
+    (c.loop-enumerator.invariant here
+    (subst (λ xs. GoesNames here here c.loop-enumerator.is_first (map view_enumerator xs))
+    (sym (drop_all _ _ c.loop-enumerator-test.false)) (finds_none here))).list

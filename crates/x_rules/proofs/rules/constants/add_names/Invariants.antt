@@ -8,5 +8,8 @@ use Rattle.x_rules.proofs.rules.constants.add_names.Given as goal
 
 abbrev pub invariant-loop-enumerator : goal.invariant-loop-enumerator
 invariant-loop-enumerator l =
-    (to : Walked EnumeratorAt) → GoesNames (record { word = l.word; list = map view_enumerator_at l.list.items }) to l.is_first (map view_enumerator (drop l.enumerator-index l.enumerators))
-    → GoesNames (record { word = l.fn.at; list = map view_enumerator_at l.fn.list.items }) to true (map view_enumerator l.enumerators)
+    (to : Walked EnumeratorAt)
+    → GoesNames (record { word = l.word; list = map view_enumerator_at l.list.items }) to l.is_first
+    (map view_enumerator (drop l.enumerator-index l.enumerators))
+    → GoesNames (record { word = l.fn.at; list = map view_enumerator_at l.fn.list.items }) to true
+    (map view_enumerator l.enumerators)

@@ -7,5 +7,7 @@ use Rattle.x_rules.proofs.rules.duplicates.add_duplicates.Given as goal
 -- with the faults of the names that are left, there are those of all
 abbrev pub invariant-loop-place : goal.invariant-loop-place
 invariant-loop-place l =
-    l.faults.items ++ duplicates_from (seen_by l.sights) (place_seen l.sights) l.place (map view_name (drop l.place l.declared))
-    ≡ l.fn.faults.items ++ duplicates_from (seen_by l.sights) (place_seen l.sights) 0 (map view_name l.declared)
+    l.faults.items ++ duplicates_from (seen_by l.sights) (place_seen l.sights) l.place
+    (map view_name (drop l.place l.declared))
+    ≡ l.fn.faults.items ++ duplicates_from (seen_by l.sights) (place_seen l.sights) 0
+    (map view_name l.declared)

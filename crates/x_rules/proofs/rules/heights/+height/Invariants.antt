@@ -8,7 +8,8 @@ use Rattle.x_rules.proofs.rules.heights.+height.Given as goal
 
 abbrev pub invariant-fields_height-loop-declaration : goal.invariant-fields_height-loop-declaration
 invariant-fields_height-loop-declaration l =
-    max l.height (capped (fields_height (seen_by l.sights) (view_declarations (drop l.declaration-index l.declarations))))
+    max l.height (capped (fields_height (seen_by l.sights)
+    (view_declarations (drop l.declaration-index l.declarations))))
     ≡ capped (fields_height (seen_by l.sights) (view_declarations l.declarations))
 
 abbrev pub invariant-arms_height-loop-arm : goal.invariant-arms_height-loop-arm

@@ -6,4 +6,5 @@ use Rattle.x_rules.proofs.rules.heights.add_too_high_names.Given as goal
 -- with the faults of the names that are left, there are those of all
 abbrev pub invariant-loop-name : goal.invariant-loop-name
 invariant-loop-name l =
-    l.faults.items ++ too_high_faults l.high (map view_name (drop l.name-index l.declared)) ≡ l.fn.faults.items ++ too_high_faults l.high (map view_name l.declared)
+    l.faults.items ++ too_high_faults l.high (map view_name (drop l.name-index l.declared))
+    ≡ l.fn.faults.items ++ too_high_faults l.high (map view_name l.declared)

@@ -17,7 +17,8 @@ returns-in-Typedef c =
     let known = knowns see (outline.enumerators d) in
     let name = c.args.name.now in
     IfOk-weaker c.typedef_meaning.result _ _
-    (λ kept is numbers bodies low. is (outline.enumerators d) known numbers ∙ defined_type d see known low ∙ sym (ap (λ kind. meaning_as d see kind (cow_slice_items name.name) name.word) c.in-Typedef.is))
+    (λ kept is numbers bodies low. is (outline.enumerators d) known numbers ∙ defined_type d see known low
+    ∙ sym (ap (λ kind. meaning_as d see kind (cow_slice_items name.name) name.word) c.in-Typedef.is))
     c.typedef_meaning.ensures
 
 pub returns-in_default : goal.returns-in_default
@@ -31,5 +32,6 @@ returns-in_default c =
     is (outline.enumerators d) known numbers
     ∙ ap (counted_type see known) (c.body_named.ensures ∙ ap (λ bs. body_named bs name.word) bodies)
     ∙ type_at d see known name.word low
-    ∙ meaning_of_type d see name.kind (cow_slice_items name.name) name.word c.in_default.not-Constant c.in_default.not-Typedef c.in_default.not-Program)
+    ∙ meaning_of_type d see name.kind (cow_slice_items name.name) name.word c.in_default.not-Constant
+    c.in_default.not-Typedef c.in_default.not-Program)
     c.named_meaning.ensures

@@ -10,5 +10,6 @@ use Rattle.x_rules.proofs.rules.mentioned.add_mentioned.Given as goal
 abbrev pub invariant-loop-mention : goal.invariant-loop-mention
 invariant-loop-mention l =
     (all : List EnumeratorAt) (known : List Known) → HasNumbers l.constants all known
-    → l.faults.items ++ mention_faults (seen_by l.sights) all (map view_mention (drop l.mention-index l.mentions))
+    → l.faults.items ++ mention_faults (seen_by l.sights) all
+    (map view_mention (drop l.mention-index l.mentions))
     ≡ l.fn.faults.items ++ mention_faults (seen_by l.sights) all (map view_mention l.mentions)

@@ -10,9 +10,13 @@ loop-group-preserved c =
     let at = c.loop-group.group-index in
     let ms = c.args.members.now in
     let here = c.group-item.result in
-    let is : drop at ms ≡ here ∷ drop (at + 1) ms = drop_more ms at _ c.loop-group-test.true ∙ ap (λ x. x ∷ drop (at + 1) ms) (sym c.group-item.is) in
-    listed_more (λ m. repeated_members (view_members m)) c.loop-group.faults.items c.add_repeats_of.new.faults.items (drop at ms) here (drop (at + 1) ms) _ is c.in_ok-add_repeats_of.ensures c.loop-group.invariant
+    let is : drop at ms ≡ here ∷ drop (at + 1) ms = drop_more ms at _ c.loop-group-test.true
+    ∙ ap (λ x. x ∷ drop (at + 1) ms) (sym c.group-item.is) in
+    listed_more (λ m. repeated_members (view_members m)) c.loop-group.faults.items
+    c.add_repeats_of.new.faults.items (drop at ms) here (drop (at + 1) ms) _ is c.in_ok-add_repeats_of.ensures
+    c.loop-group.invariant
 
 pub returns : goal.returns
 returns c =
-    listed_all (λ m. repeated_members (view_members m)) c.loop-group.faults.items _ _ (drop_none c.args.members.now c.loop-group.group-index c.loop-group-test.false) c.loop-group.invariant
+    listed_all (λ m. repeated_members (view_members m)) c.loop-group.faults.items _ _
+    (drop_none c.args.members.now c.loop-group.group-index c.loop-group-test.false) c.loop-group.invariant

@@ -1,4 +1,5 @@
-use Rattle.std.proofs.Common.{◌≡◌, ◌+◌, suc, [], ◌++◌, map, drop, get_or, ap, sym, ◌∙◌, arith, append_assoc, append-nil}
+use Rattle.std.proofs.Common.{◌≡◌, ◌+◌, suc, [], ◌++◌, map, drop, get_or, ap, sym, ◌∙◌, arith, append_assoc}
+use Rattle.std.proofs.Common.{append-nil}
 use Rattle.std.specs.Str.{bytes_eq}
 use Rattle.x_rules.specs.Found.{fault_at, repeat_code, repeats_from}
 use Rattle.x_rules.specs.FirstPlaces.{first_from, first_place, is_behind}
@@ -18,16 +19,23 @@ loop-place-preserved c =
     let rest = map view_name_at (drop (place + 1) all) in
     let now = c.loop-place.faults.items in
     let next : place + 1 ≡ suc place = omega arith in
-    let found = ap (first_from (λ x. bytes_eq here.name.now x.name.now) 0) c.in_ok-places.ensures ∙ first_named (λ x. x.name) view_name_at all here.name.now in
-    ap (λ l. l ++ repeats_from first (place + 1) rest) (c.in_ok-add_fault.ensures ∙ ap (λ code. now ++ fault_at here.word code) (c.name_fault-code.ensures ∙ ap repeat_code (c.has_before.ensures ∙ ap (λ o. is_behind o place) found)))
-    ∙ append_assoc now (fault_at here.word (repeat_code (is_behind (first here.name.now) place))) (repeats_from first (place + 1) rest)
-    ∙ ap (λ k. now ++ (fault_at here.word (repeat_code (is_behind (first here.name.now) place)) ++ repeats_from first k rest)) next
-    ∙ sym (ap (λ xs. now ++ repeats_from first place (map view_name_at xs)) (drop_one all place d c.loop-place-test.true))
+    let found = ap (first_from (λ x. bytes_eq here.name.now x.name.now) 0) c.in_ok-places.ensures
+    ∙ first_named (λ x. x.name) view_name_at all here.name.now in
+    ap (λ l. l ++ repeats_from first (place + 1) rest)
+    (c.in_ok-add_fault.ensures ∙ ap (λ code. now ++ fault_at here.word code) (c.name_fault-code.ensures
+    ∙ ap repeat_code (c.has_before.ensures ∙ ap (λ o. is_behind o place) found)))
+    ∙ append_assoc now (fault_at here.word (repeat_code (is_behind (first here.name.now) place)))
+    (repeats_from first (place + 1) rest)
+    ∙ ap (λ k. now ++ (fault_at here.word (repeat_code (is_behind (first here.name.now) place))
+    ++ repeats_from first k rest)) next
+    ∙ sym (ap (λ xs. now ++ repeats_from first place (map view_name_at xs))
+    (drop_one all place d c.loop-place-test.true))
     ∙ c.loop-place.invariant
 
 pub returns : goal.returns
 returns c =
     let first = first_place 0 (map (λ x. x.name) (map view_name_at c.args.names.now)) in
     sym (append-nil c.loop-place.faults.items)
-    ∙ sym (ap (λ xs. c.loop-place.faults.items ++ repeats_from first c.loop-place.place (map view_name_at xs)) (drop_none c.args.names.now c.loop-place.place c.loop-place-test.false))
+    ∙ sym (ap (λ xs. c.loop-place.faults.items ++ repeats_from first c.loop-place.place (map view_name_at xs))
+    (drop_none c.args.names.now c.loop-place.place c.loop-place-test.false))
     ∙ c.loop-place.invariant

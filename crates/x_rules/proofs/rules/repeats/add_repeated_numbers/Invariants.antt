@@ -7,4 +7,5 @@ use Rattle.x_rules.proofs.rules.repeats.add_repeated_numbers.Given as goal
 
 abbrev pub invariant-loop-place : goal.invariant-loop-place
 invariant-loop-place l =
-    Counted (λ z. list_any (λ n. int_eq z n.number) (take l.place l.numbers)) l.code l.faults.items (l.fn.faults.items ++ repeated_numbers l.code l.numbers) (drop l.place l.numbers)
+    Counted (λ z. list_any (λ n. int_eq z n.number) (take l.place l.numbers)) l.code l.faults.items
+    (l.fn.faults.items ++ repeated_numbers l.code l.numbers) (drop l.place l.numbers)

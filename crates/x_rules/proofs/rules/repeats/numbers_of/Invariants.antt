@@ -6,4 +6,5 @@ use Rattle.x_rules.proofs.rules.repeats.numbers_of.Given as goal
 -- with those that are left, there are the numbers of all
 abbrev pub invariant-loop-spelled : goal.invariant-loop-spelled
 invariant-loop-spelled l =
-    l.list.items ++ spelled_numbers (map view_number_at (drop l.spelled-index l.numbers)) ≡ spelled_numbers (map view_number_at l.numbers)
+    l.list.items ++ spelled_numbers (map view_number_at (drop l.spelled-index l.numbers))
+    ≡ spelled_numbers (map view_number_at l.numbers)

@@ -11,10 +11,16 @@ loop-place-preserved c all known h =
     let place = c.loop-place.place in
     let es = c.items-list.result.now in
     let here = c.index-list-place.result in
-    past_next c.loop-place.faults.items _ _ all known es c.args.constants.now.numbers place here c.loop-place-test.true (ap (map view_enumerator_at) c.items-list.ensures ∙ h.list) h.numbers h.front
-    (c.in_ok-add_fault.ensures ∙ ap (λ code. c.loop-place.faults.items ++ fault_at here.word code) (c.past_last-code.ensures ∙ ap (past_last (view_most here.enumerator.now.value)) c.number_in.ensures)
-    ∙ ap (λ x. c.loop-place.faults.items ++ fault_at x.word (past_last (view_most x.enumerator.now.value) (option_and_then (λ n. n) (slice_get c.args.constants.now.numbers place)))) c.index-list-place.is)
+    past_next c.loop-place.faults.items _ _ all known es c.args.constants.now.numbers place here
+    c.loop-place-test.true (ap (map view_enumerator_at) c.items-list.ensures ∙ h.list) h.numbers h.front
+    (c.in_ok-add_fault.ensures ∙ ap (λ code. c.loop-place.faults.items ++ fault_at here.word code)
+    (c.past_last-code.ensures ∙ ap (past_last (view_most here.enumerator.now.value)) c.number_in.ensures)
+    ∙ ap (λ x. c.loop-place.faults.items
+    ++ fault_at x.word (past_last (view_most x.enumerator.now.value)
+    (option_and_then (λ n. n) (slice_get c.args.constants.now.numbers place)))) c.index-list-place.is)
     (c.loop-place.invariant all known h)
 
 pub returns : goal.returns
-returns c all known h = past_none c.items-list.result.now all known c.loop-place.place (ap (map view_enumerator_at) c.items-list.ensures ∙ h.list) h.front c.loop-place-test.false (c.loop-place.invariant all known h)
+returns c all known h = past_none c.items-list.result.now all known c.loop-place.place
+    (ap (map view_enumerator_at) c.items-list.ensures ∙ h.list) h.front c.loop-place-test.false
+    (c.loop-place.invariant all known h)

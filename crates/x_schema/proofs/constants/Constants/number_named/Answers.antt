@@ -6,5 +6,6 @@ use Rattle.x_schema.proofs.constants.Constants.number_named.Goals as goal
 
 pub returns : goal.returns
 returns c =
-    c.copied.ensures ∙ c.get.ensures.value ∙ sym (lookup_mapped (λ k. k.now) (bytes_eq c.args.name.now) c.self.inside.table.entries)
+    c.copied.ensures ∙ c.get.ensures.value
+    ∙ sym (lookup_mapped (λ k. k.now) (bytes_eq c.args.name.now) c.self.inside.table.entries)
     ∙ ap (lookup (bytes_eq c.args.name.now)) c.self.view_is

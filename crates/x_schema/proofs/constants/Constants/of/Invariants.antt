@@ -7,4 +7,5 @@ use Rattle.x_schema.proofs.constants.Constants.of.Given as goal
 
 abbrev pub invariant-loop-definition : goal.invariant-loop-definition
 invariant-loop-definition l =
-    with_definitions l.constants (map tree_at (drop l.definition-index l.definitions)) ≡ numbers_of (map tree_at l.definitions)
+    with_definitions l.constants (map tree_at (drop l.definition-index l.definitions))
+    ≡ numbers_of (map tree_at l.definitions)

@@ -14,7 +14,8 @@ returns c =
     let name = c.args.name.now in
     let held : keyed (λ k. k.now) entries ≡ c.args.self.now = c.self.view_is in
     let none : is_some (lookup (bytes_eq name) (keyed (λ k. k.now) entries)) ≡ false =
-    ap (λ ns. is_some (lookup (bytes_eq name) ns)) held ∙ ap is_some (sym c.number_named.ensures) ∙ sym c.is_some.ensures ∙ c.if-is_some.false in
+    ap (λ ns. is_some (lookup (bytes_eq name) ns)) held ∙ ap is_some (sym c.number_named.ensures)
+    ∙ sym c.is_some.ensures ∙ c.if-is_some.false in
     ap (keyed (λ k. k.now)) (c.in_ok-insert.ensures.entries
     ∙ insert_entry-new _ c.self.inside.table c.args.name _ (absent (λ k. k.now) (bytes_eq name) entries none)
     ∙ ap (λ z. entries ++ (c.args.name, z) ∷ []) (to_z-of_z w128 c.args.number c.ranges.number))

@@ -7,4 +7,5 @@ use Rattle.x_schema.proofs.maker.Maker.add_versions.Given as goal
 
 abbrev pub invariant-loop-version : goal.invariant-loop-version
 invariant-loop-version l =
-    PutsProcedures l.known l.fn.self l.self l.fn.table.entries l.table.entries (flat_map (procedures_in l.program) (map view_version (take l.version-index l.versions)))
+    PutsProcedures l.known l.fn.self l.self l.fn.table.entries l.table.entries
+    (flat_map (procedures_in l.program) (map view_version (take l.version-index l.versions)))

@@ -10,7 +10,8 @@ pub returns-in-String : goal.returns-in-String
 returns-in-String c =
     let known = c.args.known.now in
     IfOk-weaker c.form.result _ _
-    (λ place x. subst (λ a. PutsAs known c.args.self.now c.form.new.self place (λ s at. IsArgument s (view_argument a) at)) (sym c.in-String.is)
+    (λ place x. subst (λ a. PutsAs known c.args.self.now c.form.new.self place
+    (λ s at. IsArgument s (view_argument a) at)) (sym c.in-String.is)
     (passed_string known c.args.self.now c.form.new.self place x))
     c.form.ensures
 
@@ -18,5 +19,6 @@ pub returns-in-Of : goal.returns-in-Of
 returns-in-Of c =
     let known = c.args.known.now in
     IfOk-weaker c.passed_type.result _ _
-    (λ place x. subst (λ a. PutsAs known c.args.self.now c.passed_type.new.self place (λ s at. IsArgument s (view_argument a) at)) (sym c.in-Of.is) x)
+    (λ place x. subst (λ a. PutsAs known c.args.self.now c.passed_type.new.self place
+    (λ s at. IsArgument s (view_argument a) at)) (sym c.in-Of.is) x)
     c.passed_type.ensures

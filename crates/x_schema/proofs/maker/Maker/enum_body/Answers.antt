@@ -11,6 +11,9 @@ returns c =
     let known = c.args.known.now in
     let names = c.in_ok-names.names.entries in
     IfOk-weaker c.form.result _ _
-    (λ place x. let add : AddsForm c.enumerators.new.self c.form.new.self (enum_form names) place = rw c.enum_form.ensures at x in
-    enum_put known c.args.self.now c.enumerators.new.self c.form.new.self (map view_enumerator c.args.enumerators.now) names place (rw c.constants.ensures at c.in_ok-names.ensures known) add)
+    (λ place x. let add : AddsForm c.enumerators.new.self c.form.new.self (enum_form names) place =
+    rw c.enum_form.ensures at x in
+    enum_put known c.args.self.now c.enumerators.new.self c.form.new.self
+    (map view_enumerator c.args.enumerators.now) names place
+    (rw c.constants.ensures at c.in_ok-names.ensures known) add)
     c.form.ensures

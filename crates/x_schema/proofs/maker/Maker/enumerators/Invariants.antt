@@ -8,4 +8,5 @@ use Rattle.x_schema.proofs.maker.Maker.enumerators.Given as goal
 abbrev pub invariant-loop-enumerator : goal.invariant-loop-enumerator
 invariant-loop-enumerator l =
     (known : schema.Known) → IsGood known.types l.fn.self
-    → EnumSoFar known l.fn.self l.self l.constants l.next l.names.entries (map view_enumerator (drop l.enumerator-index l.enumerators)) (map view_enumerator l.enumerators)
+    → EnumSoFar known l.fn.self l.self l.constants l.next l.names.entries
+    (map view_enumerator (drop l.enumerator-index l.enumerators)) (map view_enumerator l.enumerators)

@@ -12,7 +12,8 @@ returns c =
     let types = named_types c.take_found.new.types.entries in
     let after : Known = record { numbers = c.known.inside.constants; types = types } in
     on_ok_weaker c.take_found.result
-    (λ x. item_found c.args.self.now c.find.new.self c.take_found.new.self c.args.known.now after (tree_at c.args.definition) c.in_ok-find.ensures
+    (λ x. item_found c.args.self.now c.find.new.self c.take_found.new.self c.args.known.now after
+    (tree_at c.args.definition) c.in_ok-find.ensures
     (subst (λ (k : Known). TakesFound c.find.new.self c.take_found.new.self k.types types) c.known.view_is x)
     (ap (λ (k : Known). k.numbers) c.known.view_is))
     c.take_found.ensures

@@ -7,5 +7,7 @@ use Rattle.x_schema.proofs.maker.Maker.other_field.Goals as goal
 pub returns : goal.returns
 returns c =
     IfOk-weaker c.argument_field.result _ _
-    (λ field x. field_put c.args.known.now c.args.self.now c.argument.new.self c.argument_field.new.self c.args.number (Some (view_argument c.args.other.now)) c.in_ok-form.form field c.in_ok-form.ensures x.0 x.1)
+    (λ field x. field_put c.args.known.now c.args.self.now c.argument.new.self c.argument_field.new.self
+    c.args.number (Some (view_argument c.args.other.now)) c.in_ok-form.form field
+    c.in_ok-form.ensures x.0 x.1)
     c.argument_field.ensures

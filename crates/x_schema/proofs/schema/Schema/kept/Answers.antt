@@ -6,5 +6,6 @@ use Rattle.x_schema.proofs.schema.Schema.kept.Goals as goal
 
 pub returns-clause-within : goal.returns-clause-within
 returns-clause-within c =
-    subst (λ (s : Schema). IfSome c.copied.result (λ of. IsKeptWithin (length s.names) (length s.forms) of)) c.self.view_is
+    subst (λ (s : Schema). IfSome c.copied.result (λ of. IsKeptWithin (length s.names) (length s.forms) of))
+    c.self.view_is
     (known_kept _ c.args.numbers c.copied.result c.self.invariant (c.copied.ensures ∙ c.get.ensures.value))

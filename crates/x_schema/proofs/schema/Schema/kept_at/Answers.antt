@@ -6,4 +6,5 @@ use Rattle.x_schema.proofs.schema.Schema.kept_at.Goals as goal
 pub returns-in-Some-clause-within : goal.returns-in-Some-clause-within
 returns-in-Some-clause-within c =
     subst (λ (s : Schema). IsKeptWithin (length s.names) (length s.forms) c.in-Some.kept.now) c.self.view_is
-    (known_kept _ c.in-Some.field-0-0.now (Some c.in-Some.kept.now) c.self.invariant (sym c.in-Some.ensures.value))
+    (known_kept _ c.in-Some.field-0-0.now (Some c.in-Some.kept.now) c.self.invariant
+    (sym c.in-Some.ensures.value))

@@ -27,7 +27,8 @@ returns-clause-given g c =
     × AreExplained before foreign (telling_of new.how.file new.text) items said × Adds q middle r end said))
     c.in_ok-facts.ensures.files
     (subst (λ names. Compiles known new.text (λ items. (said : List ℕ)
-    × AreExplained (before_in c.in_ok-facts.facts) names (telling_of new.how.file new.text) items said × Adds q middle r end said))
+    × AreExplained (before_in c.in_ok-facts.facts) names (telling_of new.how.file new.text) items said
+    × Adds q middle r end said))
     c.in_ok-facts.ensures.foreign c.add_explained_faults.ensures) in
     subst (λ s. GivesBy (λ how here a. Over how here (λ known items. IsExplainAnswer how here items a)) s new
     (Ok false) c.args.pen.now start r end) (c.renew.ensures.same file)
@@ -40,7 +41,8 @@ returns-in_err-renew-clause-given g c =
     let file = c.args.file.now in
     let now = g.S.Sink.state c.args.sink.now in
     passed_on (λ r. GivesBy (λ how here a. Over how here (λ known items. IsExplainAnswer how here items a))
-    (situation file c.args.text.now) (situation file c.renew.new.text) r c.args.pen.now now c.args.pen.now now)
+    (situation file c.args.text.now) (situation file c.renew.new.text) r c.args.pen.now now
+    c.args.pen.now now)
     c.from_residual.result c.in_err-renew.field-0.0 c.from_residual.ensures.1 (c.renew.ensures.same file)
 
 pub returns-in_err-foreign-clause-given : goal.returns-in_err-foreign-clause-given
@@ -48,13 +50,17 @@ returns-in_err-foreign-clause-given g c =
     let file = c.args.file.now in
     let now = g.S.Sink.state c.args.sink.now in
     passed_on (λ r. GivesBy (λ how here a. Over how here (λ known items. IsExplainAnswer how here items a))
-    (situation file c.args.text.now) (situation file c.renew.new.text) r c.args.pen.now now c.args.pen.now now)
-    c.from_residual-in_err-foreign.result c.in_err-foreign.field-0.0 c.from_residual-in_err-foreign.ensures.1 (c.renew.ensures.same file)
+    (situation file c.args.text.now) (situation file c.renew.new.text) r c.args.pen.now now
+    c.args.pen.now now)
+    c.from_residual-in_err-foreign.result c.in_err-foreign.field-0.0 c.from_residual-in_err-foreign.ensures.1
+    (c.renew.ensures.same file)
 
 pub returns-in_err-facts-clause-given : goal.returns-in_err-facts-clause-given
 returns-in_err-facts-clause-given g c =
     let file = c.args.file.now in
     let now = g.S.Sink.state c.args.sink.now in
     passed_on (λ r. GivesBy (λ how here a. Over how here (λ known items. IsExplainAnswer how here items a))
-    (situation file c.args.text.now) (situation file c.renew.new.text) r c.args.pen.now now c.args.pen.now now)
-    c.from_residual-in_err-facts.result c.in_err-facts.field-0.0 c.from_residual-in_err-facts.ensures.1 (c.renew.ensures.same file)
+    (situation file c.args.text.now) (situation file c.renew.new.text) r c.args.pen.now now
+    c.args.pen.now now)
+    c.from_residual-in_err-facts.result c.in_err-facts.field-0.0 c.from_residual-in_err-facts.ensures.1
+    (c.renew.ensures.same file)

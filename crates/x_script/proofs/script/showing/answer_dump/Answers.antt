@@ -19,7 +19,8 @@ returns-in_err-renew-clause-given g c =
     let file = c.args.file.now in
     let now = g.S.Sink.state c.args.sink.now in
     passed_on (λ r. GivesBy (λ how here a. IsDumped how here c.args.name.now (bytes_of c.args.hex.now) a)
-    (situation file c.args.text.now) (situation file c.renew.new.text) r c.args.pen.now now c.args.pen.now now)
+    (situation file c.args.text.now) (situation file c.renew.new.text) r c.args.pen.now now
+    c.args.pen.now now)
     c.from_residual.result c.in_err-renew.field-0.0 c.from_residual.ensures.1
     (c.renew.ensures.same file)
 

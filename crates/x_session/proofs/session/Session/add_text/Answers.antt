@@ -12,8 +12,10 @@ pub returns : goal.returns
 returns g c =
     let start = g.S.Sink.state c.args.sink.now in
     let end = g.S.Sink.state c.add_text.new.sink in
-    let items = items_of c.self.inside.texts.text c.self.inside.tokens.list c.self.inside.items.entries.list in
+    let items = items_of c.self.inside.texts.text c.self.inside.tokens.list
+    c.self.inside.items.entries.list in
     let told = subst (λ t. Adds c.args.pen.now start c.add_text.new.pen end t)
     (λ i. text c.args.which (c.deref.ensures.value i) (parts_kept c.self.invariant i)) c.add_text.ensures in
-    subst (λ v. Compiles v.known v.text (λ is. Adds c.args.pen.now start c.add_text.new.pen end (text_of c.args.which v.base is))) c.self.view_is
+    subst (λ v. Compiles v.known v.text
+    (λ is. Adds c.args.pen.now start c.add_text.new.pen end (text_of c.args.which v.base is))) c.self.view_is
     (c.self.inside.tokens.list, items, (compilation c.self.invariant), told)

@@ -9,6 +9,12 @@ use Rattle.x_session.proofs.session.Session.definition_count.Goals as goal
 
 pub returns : goal.returns
 returns c =
-    let items = items_of c.self.inside.texts.text c.self.inside.tokens.list c.self.inside.items.entries.list in
-    let found = c.definition_count.ensures ∙ ap (λ ds. length (numbered 0 ds)) (sym (definitions-items (lexemes c.self.inside.texts.text c.self.inside.tokens.list) c.self.inside.items.entries.list)) in
-    subst (λ v. Compiles v.known v.text (λ is. c.definition_count.result ≡ length (numbered 0 (definitions_of is)))) c.self.view_is (c.self.inside.tokens.list, items, (compilation c.self.invariant), found)
+    let items = items_of c.self.inside.texts.text c.self.inside.tokens.list
+    c.self.inside.items.entries.list in
+    let found = c.definition_count.ensures
+    ∙ ap (λ ds. length (numbered 0 ds))
+    (sym (definitions-items (lexemes c.self.inside.texts.text c.self.inside.tokens.list)
+    c.self.inside.items.entries.list)) in
+    subst (λ v. Compiles v.known v.text
+    (λ is. c.definition_count.result ≡ length (numbered 0 (definitions_of is)))) c.self.view_is
+    (c.self.inside.tokens.list, items, (compilation c.self.invariant), found)

@@ -10,25 +10,32 @@ use Rattle.x_compile.proofs.WalkedItems.{passed_parsed}
 use Rattle.x_session.proofs.session.Session.faults.Goals as goal
 
 pub of-requires-clause-ordered : goal.of-requires-clause-ordered
-of-requires-clause-ordered c = are_ordered c.self.inside.known c.self.inside.texts.text c.self.inside.tokens.list c.self.inside.items.entries.list (compilation c.self.invariant)
+of-requires-clause-ordered c = are_ordered c.self.inside.known c.self.inside.texts.text
+    c.self.inside.tokens.list c.self.inside.items.entries.list (compilation c.self.invariant)
 
 pub of-requires-clause-passed : goal.of-requires-clause-passed
 of-requires-clause-passed c =
     let inside = c.self.inside in
     subst (λ t. ArePassed (lexemes t inside.tokens.list) inside.items.entries.list) (sym c.text.ensures)
-    (passed_parsed (lexemes inside.texts.text inside.tokens.list) inside.items.entries.list c.self.invariant.parsed)
+    (passed_parsed (lexemes inside.texts.text inside.tokens.list) inside.items.entries.list
+    c.self.invariant.parsed)
 
 pub of-requires-clause-count : goal.of-requires-clause-count
 of-requires-clause-count c =
     let inside = c.self.inside in
-    subst (λ t. inside.items.faults ≡ length (faults_of t (items_of t inside.tokens.list inside.items.entries.list))) (sym c.text.ensures) c.self.invariant.count_is
+    subst (λ t. inside.items.faults
+    ≡ length (faults_of t (items_of t inside.tokens.list inside.items.entries.list))) (sym c.text.ensures)
+    c.self.invariant.count_is
 
 pub returns : goal.returns
 returns c =
-    let items = items_of c.self.inside.texts.text c.self.inside.tokens.list c.self.inside.items.entries.list in
+    let items = items_of c.self.inside.texts.text c.self.inside.tokens.list
+    c.self.inside.items.entries.list in
     subst (λ v. Compiles v.known v.text (λ is. c.of.result ≡ faults_of v.text is)) c.self.view_is (
       c.self.inside.tokens.list,
       items,
       compilation c.self.invariant,
-      subst (λ t. c.of.result ≡ faults_of t (items_of t c.self.inside.tokens.list c.self.inside.items.entries.list)) c.text.ensures c.of.ensures,
+      subst (λ t. c.of.result
+          ≡ faults_of t (items_of t c.self.inside.tokens.list c.self.inside.items.entries.list))
+          c.text.ensures c.of.ensures,
     )

@@ -21,7 +21,8 @@ returns c =
       items_of c.self.inside.texts.text tokens entries,
       compilation c.self.invariant,
       record {
-        definitions = ap known_definitions is ∙ definitions_known entries ∙ sym (definitions-items all entries);
+        definitions = ap known_definitions is ∙ definitions_known entries
+            ∙ sym (definitions-items all entries);
         outcomes = ap (λ k. k.outcomes) is ∙ sym (results-items all entries);
       },
     ))

@@ -15,7 +15,8 @@ returns-clause-lacks c =
     let items = items_of inside.texts.text inside.tokens.list entries in
     let name = c.args.name.now in
     IfOk-weaker c.lacks.result _ _
-    (λ lacks is. subst (λ v. Compiles v.known v.text (λ items. lacks ≡ is_lacking_name (definitions_of items) name))
+    (λ lacks is. subst
+    (λ v. Compiles v.known v.text (λ items. lacks ≡ is_lacking_name (definitions_of items) name))
     c.self.view_is (
       inside.tokens.list,
       items,

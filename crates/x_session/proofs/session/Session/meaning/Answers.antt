@@ -12,6 +12,13 @@ returns c =
     let tokens = c.self.inside.tokens.list in
     let entries = c.self.inside.items.entries.list in
     let all = lexemes c.self.inside.texts.text tokens in
-    let found = c.meaning.ensures ∙ ap (λ rs. meaning_at (result_at rs) c.args.first.now) (sym (results-items all entries)) in
-    subst (λ v. Compiles v.known v.text (λ is. view_meaning c.meaning.result ≡ meaning_at (result_at (map (λ i. i.result) is)) c.args.first.now))
-    c.self.view_is (tokens, items_of c.self.inside.texts.text tokens entries, (compilation c.self.invariant), found)
+    let found = c.meaning.ensures
+    ∙ ap (λ rs. meaning_at (result_at rs) c.args.first.now) (sym (results-items all entries)) in
+    subst (λ v. Compiles v.known v.text
+    (λ is. view_meaning c.meaning.result ≡ meaning_at (result_at (map (λ i. i.result) is)) c.args.first.now))
+    c.self.view_is (
+      tokens,
+      items_of c.self.inside.texts.text tokens entries,
+      (compilation c.self.invariant),
+      found,
+    )

@@ -8,7 +8,11 @@ use Rattle.x_session.proofs.session.Session.tokens.Goals as goal
 
 pub returns : goal.returns
 returns c =
-    let items = items_of c.self.inside.texts.text c.self.inside.tokens.list c.self.inside.items.entries.list in
-    let all = tokens_are c.self.inside.known c.self.inside.texts.text c.self.inside.tokens.list items (compilation c.self.invariant) in
-    let found = c.iter.ensures.tokens ∙ ap (λ t. lexemes t c.self.inside.tokens.list) c.text.ensures ∙ sym all in
-    subst (λ v. Compiles v.known v.text (λ is. c.iter.result ≡ tokens_of is)) c.self.view_is (c.self.inside.tokens.list, items, (compilation c.self.invariant), found)
+    let items = items_of c.self.inside.texts.text c.self.inside.tokens.list
+    c.self.inside.items.entries.list in
+    let all = tokens_are c.self.inside.known c.self.inside.texts.text c.self.inside.tokens.list items
+    (compilation c.self.invariant) in
+    let found = c.iter.ensures.tokens ∙ ap (λ t. lexemes t c.self.inside.tokens.list) c.text.ensures
+    ∙ sym all in
+    subst (λ v. Compiles v.known v.text (λ is. c.iter.result ≡ tokens_of is)) c.self.view_is
+    (c.self.inside.tokens.list, items, (compilation c.self.invariant), found)

@@ -5,4 +5,5 @@ use Rattle.x_trees.proofs.Rows.{struct_view}
 use Rattle.x_trees.proofs.trees.declaration.struct_body.Goals as goal
 
 pub returns : goal.returns
-returns c = struct_view c.fitted.result ∙ ap (λ members. Struct (view_declarations members)) (sym c.fitted.ensures)
+returns c = struct_view c.fitted.result
+    ∙ ap (λ members. Struct (view_declarations members)) (sym c.fitted.ensures)

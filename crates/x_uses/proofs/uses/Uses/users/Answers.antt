@@ -4,4 +4,5 @@ use Rattle.x_uses.proofs.TableLemmas.{slot_seen}
 use Rattle.x_uses.proofs.uses.Uses.users.Goals as goal
 
 pub returns : goal.returns
-returns c = c.users_in.ensures ∙ ap users_at (sym (slot_seen c.self.inside.table.entries c.args.name.now)) ∙ ap (λ u. users_in u c.args.name.now) c.self.view_is
+returns c = c.users_in.ensures ∙ ap users_at (sym (slot_seen c.self.inside.table.entries c.args.name.now))
+    ∙ ap (λ u. users_in u c.args.name.now) c.self.view_is

@@ -11,5 +11,9 @@ loop-place-preserved c =
     let at = c.loop-place.place in
     let x = c.index-declared-place.result in
     let d = c.in_ok-declarer.declarer in
-    declared_next c.args.table.now.entries c.loop-place.table.entries c.note_declarer.new.table.entries c.args.item all at x d c.loop-place-test.true c.index-declared-place.is c.in_ok-declarer.ensures c.loop-place.invariant
-    (subst (λ n. Notes c.loop-place.table.entries c.note_declarer.new.table.entries (λ other. cond (bytes_eq other n) (Some (declarer_of d)) None) (λ other. bytes_eq other n) d.item) c.deref.ensures.value c.in_ok-note_declarer.ensures)
+    declared_next c.args.table.now.entries c.loop-place.table.entries c.note_declarer.new.table.entries
+    c.args.item all at x d c.loop-place-test.true c.index-declared-place.is c.in_ok-declarer.ensures
+    c.loop-place.invariant
+    (subst (λ n. Notes c.loop-place.table.entries c.note_declarer.new.table.entries
+    (λ other. cond (bytes_eq other n) (Some (declarer_of d)) None) (λ other. bytes_eq other n) d.item)
+    c.deref.ensures.value c.in_ok-note_declarer.ensures)

@@ -6,4 +6,5 @@ use Rattle.x_uses.proofs.uses.making.add_mentioned.Given as goal
 
 -- the names so far are taken in
 abbrev pub invariant-loop-mention : goal.invariant-loop-mention
-invariant-loop-mention l = Notes l.fn.table.entries l.table.entries (λ _. None) (λ name. list_any (bytes_eq name) (map (λ m. m.name.now) (take l.mention-index l.mentioned))) l.item
+invariant-loop-mention l = Notes l.fn.table.entries l.table.entries (λ _. None)
+    (λ name. list_any (bytes_eq name) (map (λ m. m.name.now) (take l.mention-index l.mentioned))) l.item

@@ -14,7 +14,9 @@ returns-in-Some c =
     let w = c.note_user.new.self in
     let there = sym c.get_mut.ensures.value ∙ ap option_copied_mut c.in-Some.is in
     on_ok_weaker c.note_user.result
-    (λ more. user_noted old.entries new.entries c.args.name.now s w c.args.item (inl there) (written old new c.args.name.now s w (λ _. Some w) there refl (c.get_mut.follows.holds w)) (ap (λ v. v.items) c.note_user.ensures.declarers) more)
+    (λ more. user_noted old.entries new.entries c.args.name.now s w c.args.item (inl there)
+    (written old new c.args.name.now s w (λ _. Some w) there refl (c.get_mut.follows.holds w))
+    (ap (λ v. v.items) c.note_user.ensures.declarers) more)
     c.note_user.ensures.users
 
 pub returns : goal.returns
@@ -24,6 +26,8 @@ returns c =
     let w = c.note_user-2.new.self in
     let none = sym c.get_mut.ensures.value ∙ ap option_copied_mut c.in_default.is in
     on_ok_weaker c.insert_slot.result
-    (λ put. user_noted old.entries new.entries c.args.name.now c.new-slot.result w c.args.item (inr (none, c.new-slot.ensures)) (subst (λ m. Changes m.entries new.entries c.args.name.now (λ _. Some w)) c.get_mut.follows.holds-at-none put)
+    (λ put. user_noted old.entries new.entries c.args.name.now c.new-slot.result w c.args.item
+    (inr (none, c.new-slot.ensures)) (subst (λ m. Changes m.entries new.entries c.args.name.now (λ _. Some w))
+    c.get_mut.follows.holds-at-none put)
     (ap (λ v. v.items) c.in_ok-note_user.ensures.declarers) c.in_ok-note_user.ensures.users)
     c.insert_slot.ensures.inserted

@@ -8,8 +8,12 @@ loop-index-preserved c =
     let here = c.index-definitions-index.result in
     let same = c.in-Ok.ensures.1 in
     record {
-      declarers = λ short name. declarers_next c.loop-index.table.entries c.add_item.new.table.entries c.in-Ok.item at all here c.loop-index-test.true c.index-definitions-index.is same
-          (c.in_ok-add_item.ensures (short_item all at here c.loop-index-test.true c.index-definitions-index.is short)) (c.loop-index.invariant.declarers short) name;
-      users = λ short name. users_next c.loop-index.table.entries c.add_item.new.table.entries c.in-Ok.item at all here c.loop-index-test.true c.index-definitions-index.is same
-          (c.in_ok-add_item.ensures (short_item all at here c.loop-index-test.true c.index-definitions-index.is short)) (c.loop-index.invariant.users short) name;
+      declarers = λ short name. declarers_next c.loop-index.table.entries c.add_item.new.table.entries
+          c.in-Ok.item at all here c.loop-index-test.true c.index-definitions-index.is same
+          (c.in_ok-add_item.ensures (short_item all at here c.loop-index-test.true
+          c.index-definitions-index.is short)) (c.loop-index.invariant.declarers short) name;
+      users = λ short name. users_next c.loop-index.table.entries c.add_item.new.table.entries c.in-Ok.item at
+          all here c.loop-index-test.true c.index-definitions-index.is same
+          (c.in_ok-add_item.ensures (short_item all at here c.loop-index-test.true
+          c.index-definitions-index.is short)) (c.loop-index.invariant.users short) name;
     }

@@ -8,6 +8,9 @@ use Rattle.x_uses.proofs.uses.making.table_of.Given as goal
 -- the table has what the items so far declare and see
 abbrev pub invariant-loop-index : goal.invariant-loop-index
 invariant-loop-index l = record {
-  declarers : AreShort (map tree_at l.definitions) → (name : List ℕ) → declarers_at (slot_at l.table.entries name) ≡ declarers_of 0 (map tree_at (take l.index l.definitions)) name;
-  users : AreShort (map tree_at l.definitions) → (name : List ℕ) → users_at (slot_at l.table.entries name) ≡ users_of 0 (map tree_at (take l.index l.definitions)) name;
+  declarers : AreShort (map tree_at l.definitions) → (name : List ℕ)
+      → declarers_at (slot_at l.table.entries name)
+      ≡ declarers_of 0 (map tree_at (take l.index l.definitions)) name;
+  users : AreShort (map tree_at l.definitions) → (name : List ℕ)
+      → users_at (slot_at l.table.entries name) ≡ users_of 0 (map tree_at (take l.index l.definitions)) name;
 }

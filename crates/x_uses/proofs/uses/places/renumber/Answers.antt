@@ -13,5 +13,7 @@ loop-index-preserved g c =
     let put = g.T.AtItem.put in
     let item_of = g.T.AtItem.item_of in
     let p = c.args.place in
-    let is : c.at_item.result ≡ put (number_after p (item_of x)) x = c.at_item.ensures ∙ ap (λ k. put k x) (c.number_after.ensures ∙ ap (number_after p) c.item.ensures) in
-    ap (set ys i) is ∙ map_over_more (λ y. put (number_after p (item_of y)) y) xs ys i x (omega arith) c.loop-index.invariant c.index-places-index.is
+    let is : c.at_item.result ≡ put (number_after p (item_of x)) x = c.at_item.ensures
+    ∙ ap (λ k. put k x) (c.number_after.ensures ∙ ap (number_after p) c.item.ensures) in
+    ap (set ys i) is ∙ map_over_more (λ y. put (number_after p (item_of y)) y) xs ys i x
+    (omega arith) c.loop-index.invariant c.index-places-index.is

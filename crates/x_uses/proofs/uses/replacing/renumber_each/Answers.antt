@@ -8,7 +8,8 @@ use Rattle.x_uses.proofs.uses.replacing.renumber_each.Goals as goal
 pub loop-index-preserved : goal.loop-index-preserved
 loop-index-preserved c =
     ap (set_value_at c.loop-index.table.entries c.loop-index.index) c.renumber.ensures
-    ∙ one_more (slot_renumbered c.args.place) c.args.table.now.entries c.loop-index.table.entries c.loop-index.index c.index_mut.result.now c.loop-index.invariant c.index_mut.ensures.value
+    ∙ one_more (slot_renumbered c.args.place) c.args.table.now.entries c.loop-index.table.entries
+    c.loop-index.index c.index_mut.result.now c.loop-index.invariant c.index_mut.ensures.value
 
 pub returns : goal.returns
 returns c name =
@@ -17,5 +18,7 @@ returns c name =
     let far = c.loop-index-test.false in
     let n = c.len-index-end.ensures.len in
     let all : length es ≤ c.loop-index.index = omega arith in
-    ap (λ l. slot_at l name) (c.loop-index.invariant ∙ ap (λ l. each_slot f l ++ drop c.loop-index.index es) (take_all c.loop-index.index es all) ∙ ap (λ l. each_slot f es ++ l) (drop_all c.loop-index.index es all) ∙ append-nil (each_slot f es))
+    ap (λ l. slot_at l name) (c.loop-index.invariant
+    ∙ ap (λ l. each_slot f l ++ drop c.loop-index.index es) (take_all c.loop-index.index es all)
+    ∙ ap (λ l. each_slot f es ++ l) (drop_all c.loop-index.index es all) ∙ append-nil (each_slot f es))
     ∙ slot_of_each f es name

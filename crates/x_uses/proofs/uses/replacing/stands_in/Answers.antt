@@ -8,7 +8,9 @@ returns-in-Some c is =
     let es = c.args.table.now.entries in
     let key = c.in-Some.key.now in
     let slot = c.in-Some._slot.now in
-    let same : c.args.name.now ≡ key.items = (bytes_eq-Decides c.args.name.now c.as_slice.result.now).0 (sym c.eq.ensures ∙ is) ∙ c.as_slice.ensures.value in
+    let same : c.args.name.now ≡ key.items =
+    (bytes_eq-Decides c.args.name.now c.as_slice.result.now).0 (sym c.eq.ensures ∙ is)
+    ∙ c.as_slice.ensures.value in
     record {
       entry = (key, slot);
       there = sym c.in-Some.ensures.entry;

@@ -16,6 +16,9 @@ returns c =
     elim c.match-get_index_mut.branch [
       | in-Some w ↦
           subst (λ t. Changes old.entries t.entries name (option_map f)) (sym w.table-is)
-          (written_in old c.args.near name w.in-Some.slot.now w.take_out.new.self f c.get_index_mut.ensures.unique stands (value ∙ ap option_copied_mut w.in-Some.is) w.take_out.ensures)
-      | in_default w ↦ absurd (not_missing old c.args.near name stands (value ∙ ap option_copied_mut w.in_default.is))
+          (written_in old c.args.near name w.in-Some.slot.now w.take_out.new.self f
+          c.get_index_mut.ensures.unique stands (value ∙ ap option_copied_mut w.in-Some.is)
+          w.take_out.ensures)
+      | in_default w ↦ absurd
+          (not_missing old c.args.near name stands (value ∙ ap option_copied_mut w.in_default.is))
     ]

@@ -5,4 +5,5 @@ use Rattle.x_uses.proofs.SeenLists.{front_seen}
 use Rattle.x_uses.proofs.uses.table.first_before.Goals as goal
 
 pub returns : goal.returns
-returns c = c.first_of.ensures ∙ ap (λ l. first_of (map declarer_of l)) c.count_below.ensures.front ∙ ap first_of (front_seen c.args.bound c.args.declarers.now)
+returns c = c.first_of.ensures ∙ ap (λ l. first_of (map declarer_of l)) c.count_below.ensures.front
+    ∙ ap first_of (front_seen c.args.bound c.args.declarers.now)

@@ -6,5 +6,6 @@ use Rattle.x_uses.proofs.uses.table.first_behind.Goals as goal
 
 pub returns : goal.returns
 returns c =
-    c.first_of.ensures ∙ ap (λ l. first_of (map declarer_of l)) (rest_of c.count_below.result c.args.declarers.now ∙ c.count_below.ensures.rear)
+    c.first_of.ensures ∙ ap (λ l. first_of (map declarer_of l))
+    (rest_of c.count_below.result c.args.declarers.now ∙ c.count_below.ensures.rear)
     ∙ ap first_of (rear_seen c.args.bound c.args.declarers.now)

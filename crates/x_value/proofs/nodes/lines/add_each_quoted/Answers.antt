@@ -10,12 +10,16 @@ loop-byte-preserved g c =
     let i = c.loop-byte.byte-index in
     let start = g.S.Sink.state c.args.sink.now in
     let mid = g.S.Sink.state c.loop-byte.sink in
-    lists_more quoted_byte all (drop (i + 1) all) (get_or all i 0) c.args.pen.now c.loop-byte.pen c.add_quoted_byte.new.pen start mid (g.S.Sink.state c.add_quoted_byte.new.sink)
-    (subst (λ bs. HasListed ℕ quoted_byte all bs c.args.pen.now start c.loop-byte.pen mid) (drop_one all i 0 c.loop-byte-test.true) c.loop-byte.invariant)
+    lists_more quoted_byte all (drop (i + 1) all) (get_or all i 0) c.args.pen.now c.loop-byte.pen
+    c.add_quoted_byte.new.pen start mid (g.S.Sink.state c.add_quoted_byte.new.sink)
+    (subst (λ bs. HasListed ℕ quoted_byte all bs c.args.pen.now start c.loop-byte.pen mid)
+    (drop_one all i 0 c.loop-byte-test.true) c.loop-byte.invariant)
     c.add_quoted_byte.ensures
 
 pub returns : goal.returns
 returns g c =
     let all = c.args.bytes.now in
-    lists_all quoted_byte all (drop c.loop-byte.byte-index all) c.args.pen.now c.loop-byte.pen (g.S.Sink.state c.args.sink.now) (g.S.Sink.state c.loop-byte.sink)
-    (drop_none all c.loop-byte.byte-index (let over = c.loop-byte-test.false in omega (arith, over))) c.loop-byte.invariant
+    lists_all quoted_byte all (drop c.loop-byte.byte-index all) c.args.pen.now c.loop-byte.pen
+    (g.S.Sink.state c.args.sink.now) (g.S.Sink.state c.loop-byte.sink)
+    (drop_none all c.loop-byte.byte-index (let over = c.loop-byte-test.false in omega (arith, over)))
+    c.loop-byte.invariant

@@ -8,7 +8,12 @@ use Rattle.x_value.specs.Lines.{hex_byte}
 use Rattle.x_value.proofs.nodes.lines.add_hex_bytes.Goals as goal
 
 pub loop-chunk-init : goal.loop-chunk-init
-loop-chunk-init g c = (search rules, tt, search rules, ([], search rules, adds_none c.args.pen.now (g.S.Sink.state c.args.sink.now)))
+loop-chunk-init g c = (
+  search rules,
+  tt,
+  search rules,
+  ([], search rules, adds_none c.args.pen.now (g.S.Sink.state c.args.sink.now)),
+)
 
 pub loop-chunk-preserved : goal.loop-chunk-preserved
 loop-chunk-preserved g c =
@@ -24,9 +29,12 @@ loop-chunk-preserved g c =
       (
         so.0 ++ chunk,
         append_assoc so.0 chunk _ ∙ ap (λ (t : List ℕ). so.0 ++ t) (sym steps.1.0) ∙ so.1,
-        subst (λ t. Adds c.args.pen.now start c.add.new.self end t) (sym (flat_map-append hex_byte so.0 chunk))
-            (adds_trans c.args.pen.now c.loop-chunk.pen c.add.new.self start mid end (flat_map hex_byte so.0) (flat_map hex_byte chunk) so.2
-            (subst (λ t. Adds c.loop-chunk.pen mid c.add.new.self end t) c.hex_digits-digits.ensures c.add.ensures)),
+        subst (λ t. Adds c.args.pen.now start c.add.new.self end t)
+            (sym (flat_map-append hex_byte so.0 chunk))
+            (adds_trans c.args.pen.now c.loop-chunk.pen c.add.new.self start mid end (flat_map hex_byte so.0)
+            (flat_map hex_byte chunk) so.2
+            (subst (λ t. Adds c.loop-chunk.pen mid c.add.new.self end t) c.hex_digits-digits.ensures
+            c.add.ensures)),
       ),
     )
 
@@ -34,5 +42,6 @@ pub returns : goal.returns
 returns g c =
     let so = c.loop-chunk.invariant.3 in
     let none = nil_from_length _ c.in-None.ensures.steps.1.0 in
-    subst (λ xs. Adds c.args.pen.now (g.S.Sink.state c.args.sink.now) c.loop-chunk.pen (g.S.Sink.state c.loop-chunk.sink) (flat_map hex_byte xs))
+    subst (λ xs. Adds c.args.pen.now (g.S.Sink.state c.args.sink.now) c.loop-chunk.pen
+    (g.S.Sink.state c.loop-chunk.sink) (flat_map hex_byte xs))
     (sym (append-nil so.0) ∙ ap (λ (t : List ℕ). so.0 ++ t) (sym none) ∙ so.1) so.2

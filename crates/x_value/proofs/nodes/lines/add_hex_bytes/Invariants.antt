@@ -11,4 +11,5 @@ invariant-loop-chunk g l =
     × (goal.iterator-loop-chunk g).is_finite l.chunk-iterator
     × (chunks_size l.chunk-iterator ≡ 64)
     × ((done : List ℕ) × (done ++ chunks_rest l.chunk-iterator ≡ l.initial.bytes)
-    × Adds l.initial.pen (g.S.Sink.state l.initial.sink) l.pen (g.S.Sink.state l.sink) (flat_map hex_byte done))
+    × Adds l.initial.pen (g.S.Sink.state l.initial.sink) l.pen (g.S.Sink.state l.sink)
+    (flat_map hex_byte done))

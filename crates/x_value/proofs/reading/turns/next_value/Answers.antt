@@ -8,4 +8,5 @@ returns-in-One-clause-ok c =
     let s = c.args.schema.now in
     let old = c.args.stack.now.items in
     subst (λ t. TakesTask s t old old (Some (c.in-One.form, c.in-One.spot))) (sym c.in-One.is)
-    (opened_one s c.in-One.form c.in-One.spot old c.requires.tasks (subst (IsTyped s) c.in-One.is c.requires.task))
+    (opened_one s c.in-One.form c.in-One.spot old c.requires.tasks
+    (subst (IsTyped s) c.in-One.is c.requires.task))

@@ -12,10 +12,13 @@ returns-then-is_zeros-clause-ok c =
     let cut = c.in-Some.ensures.some in
     record {
       long = cut.long;
-      parts = cut.parts ∙ ap (λ t. c.in-Some.body.now ++ (t ++ c.in-Some.rest.now)) (zeros_copies (padding c.args.len) c.in-Some.filling.now cut.full (sym c.is_zeros.ensures ∙ c.if-is_zeros.true));
+      parts = cut.parts ∙ ap (λ t. c.in-Some.body.now ++ (t ++ c.in-Some.rest.now))
+          (zeros_copies (padding c.args.len) c.in-Some.filling.now cut.full
+          (sym c.is_zeros.ensures ∙ c.if-is_zeros.true));
     }
 
 pub returns-else-is_zeros-clause-err : goal.returns-else-is_zeros-clause-err
 returns-else-is_zeros-clause-err c =
     let cut = c.in-Some.ensures.some in
-    bad_pad c.in-Some.body.now c.in-Some.filling.now c.in-Some.rest.now cut.parts cut.long cut.full (sym c.is_zeros.ensures ∙ c.if-is_zeros.false) (let long = cut.long in omega (arith, long)) refl
+    bad_pad c.in-Some.body.now c.in-Some.filling.now c.in-Some.rest.now cut.parts cut.long cut.full
+    (sym c.is_zeros.ensures ∙ c.if-is_zeros.false) (let long = cut.long in omega (arith, long)) refl

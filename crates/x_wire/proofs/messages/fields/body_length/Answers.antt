@@ -6,8 +6,10 @@ returns-in_default-clause-err c = λ on. length_cut on c.args.bytes.now c.in_def
 
 pub returns-then-length-gt-MOST_AUTH_BYTES-clause-err : goal.returns-then-length-gt-MOST_AUTH_BYTES-clause-err
 returns-then-length-gt-MOST_AUTH_BYTES-clause-err c =
-    λ on. length_bad on c.in-Some.length c.args.bytes.now c.in-Some.rest.now c.in-Some.ensures.some.0 c.in-Some.ensures.some.1 c.if-length-gt-MOST_AUTH_BYTES.true
+    λ on. length_bad on c.in-Some.length c.args.bytes.now c.in-Some.rest.now c.in-Some.ensures.some.0
+    c.in-Some.ensures.some.1 c.if-length-gt-MOST_AUTH_BYTES.true
 
 pub returns-clause-ok : goal.returns-clause-ok
 returns-clause-ok c =
-    λ on. length_reads on c.in-Some.length c.args.bytes.now c.in-Some.rest.now c.in-Some.ensures.some.0 c.if-length-gt-MOST_AUTH_BYTES.false
+    λ on. length_reads on c.in-Some.length c.args.bytes.now c.in-Some.rest.now c.in-Some.ensures.some.0
+    c.if-length-gt-MOST_AUTH_BYTES.false

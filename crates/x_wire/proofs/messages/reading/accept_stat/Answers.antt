@@ -13,6 +13,8 @@ returns-in_err-low-clause-err c =
 
 pub returns-in_err-end-clause-err : goal.returns-in_err-end-clause-err
 returns-in_err-end-clause-err c =
-    let p = err_from_is_err_and c.from_residual-in_err-end.result c.from_residual-in_err-end.ensures.1 in rw (p.1, p.2) (λ xid verf.
+    let p = err_from_is_err_and c.from_residual-in_err-end.result c.from_residual-in_err-end.ensures.1 in
+    rw (p.1, p.2) (λ xid verf.
     let e = c.in_err-end.field-0.0 in
-    accept_ends xid verf c.args.number e.left c.args.bytes.now e.code c.if-number-eq0.false c.if-number-eq2.false c.in_err-end.ensures.err)
+    accept_ends xid verf c.args.number e.left c.args.bytes.now e.code c.if-number-eq0.false
+    c.if-number-eq2.false c.in_err-end.ensures.err)

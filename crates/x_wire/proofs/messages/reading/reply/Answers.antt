@@ -5,7 +5,9 @@ use Rattle.x_wire.specs.declared.messages.parts.Reply.{Reply}
 use Rattle.x_wire.specs.HeaderForms.{reply_form, denied_form, FormFault}
 use Rattle.x_wire.proofs.messages.reading.reply.Goals as goal
 
-denied_err : (r : Result Reply Refusal) (n : ℕ) (bytes : List ℕ) → (n ≡ 0 → ⊥) → IfErr r (λ e. (xid : ℕ) → FormFault (denied_form xid) bytes e.left e.code) → IfErr r (λ e. (xid : ℕ) → FormFault (reply_form xid n) bytes e.left e.code)
+denied_err : (r : Result Reply Refusal) (n : ℕ) (bytes : List ℕ) → (n ≡ 0 → ⊥)
+    → IfErr r (λ e. (xid : ℕ) → FormFault (denied_form xid) bytes e.left e.code)
+    → IfErr r (λ e. (xid : ℕ) → FormFault (reply_form xid n) bytes e.left e.code)
 denied_err r zero bytes some h = absurd (some refl)
 denied_err r (suc n) bytes some h = h
 
@@ -13,4 +15,5 @@ pub returns-then-number-eq0-clause-err : goal.returns-then-number-eq0-clause-err
 returns-then-number-eq0-clause-err c = rw c.if-number-eq0.true c.accepted.ensures.err
 
 pub returns-else-number-eq0-clause-err : goal.returns-else-number-eq0-clause-err
-returns-else-number-eq0-clause-err c = denied_err c.denied.result c.args.number c.args.bytes.now c.if-number-eq0.false c.denied.ensures.err
+returns-else-number-eq0-clause-err c =
+    denied_err c.denied.result c.args.number c.args.bytes.now c.if-number-eq0.false c.denied.ensures.err

@@ -11,14 +11,18 @@ loop-alloc-preserved c =
     let before = c.loop-alloc.before.items in
     let begun = c.in_ok-begin_generation.ensures.begun in
     record {
-      same = λ xid. ap (λ (ms : List (BTreeMap ℕ CompactCall)). last_in 0 (ms ++ c.begin_generation.new.last ∷ []) xid) begun
-          ∙ last_begun (before ++ c.loop-alloc.last ∷ []) c.begin_generation.new.last xid c.in_ok-begin_generation.ensures.empty ∙ c.loop-alloc.invariant.same xid;
+      same = λ xid. ap (λ (ms : List (BTreeMap ℕ CompactCall)).
+          last_in 0 (ms ++ c.begin_generation.new.last ∷ []) xid) begun
+          ∙ last_begun (before ++ c.loop-alloc.last ∷ []) c.begin_generation.new.last xid
+          c.in_ok-begin_generation.ensures.empty ∙ c.loop-alloc.invariant.same xid;
       few = subst (λ (ms : List (BTreeMap ℕ CompactCall)). length ms ≤ c.args.generation) (sym begun)
-          (let less = c.loop-alloc-test.true in let is = c.len.ensures in omega (arith, less, is, length-append before (c.loop-alloc.last ∷ [])));
+          (let less = c.loop-alloc-test.true in let is = c.len.ensures in
+          omega (arith, less, is, length-append before (c.loop-alloc.last ∷ [])));
     }
 
 pub returns-in_err-begin_generation-clause-same : goal.returns-in_err-begin_generation-clause-same
 returns-in_err-begin_generation-clause-same c xid =
     let same = c.in_err-begin_generation.ensures.same in
     ap (λ (ms : List (BTreeMap ℕ CompactCall)). last_in 0 (ms ++ c.begin_generation.new.last ∷ []) xid) same.0
-    ∙ ap (λ (m : BTreeMap ℕ CompactCall). last_in 0 (c.loop-alloc.before.items ++ m ∷ []) xid) same.1 ∙ c.loop-alloc.invariant.same xid
+    ∙ ap (λ (m : BTreeMap ℕ CompactCall). last_in 0 (c.loop-alloc.before.items ++ m ∷ []) xid) same.1
+    ∙ c.loop-alloc.invariant.same xid

@@ -4,7 +4,8 @@ use Rattle.x_wire.proofs.telling.calls.begin_generations.Given as goal
 
 abbrev pub invariant-loop-alloc : goal.invariant-loop-alloc
 invariant-loop-alloc l = record {
-  same : (xid : ℕ) → last_in 0 (l.before.items ++ l.last ∷ []) xid ≡ last_in 0 (l.fn.before.items ++ l.fn.last ∷ []) xid;
+  same : (xid : ℕ) → last_in 0 (l.before.items ++ l.last ∷ []) xid
+      ≡ last_in 0 (l.fn.before.items ++ l.fn.last ∷ []) xid;
   few : length l.before.items ≤ l.generation;
 }
 

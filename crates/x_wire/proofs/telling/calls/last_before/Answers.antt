@@ -8,15 +8,22 @@ use Rattle.x_wire.proofs.telling.calls.last_before.Goals as goal
 pub returns-in-Some-get : goal.returns-in-Some-get
 returns-in-Some-get c =
     let others = c.in-Some.others.now in
-    ap Some c.whole.ensures ∙ sym (get_some others c.in-Some.last.now (length others) c.args.xid c.in-Some-get.call.now refl (sym c.in-Some-get.ensures.value))
-    ∙ ap (λ (ms : List (BTreeMap ℕ CompactCall)). last_in 0 ms c.args.xid) (sym c.in-Some.ensures.cases.0) ∙ c.loop-last.invariant.same
+    ap Some c.whole.ensures
+    ∙ sym (get_some others c.in-Some.last.now (length others) c.args.xid c.in-Some-get.call.now refl
+    (sym c.in-Some-get.ensures.value))
+    ∙ ap (λ (ms : List (BTreeMap ℕ CompactCall)). last_in 0 ms c.args.xid) (sym c.in-Some.ensures.cases.0)
+    ∙ c.loop-last.invariant.same
 
 pub loop-last-preserved : goal.loop-last-preserved
 loop-last-preserved c = record {
-  same = sym (get_none c.in-Some.others.now c.in-Some.last.now c.args.xid (sym c.in_default-get.ensures.value))
-      ∙ ap (λ (ms : List (BTreeMap ℕ CompactCall)). last_in 0 ms c.args.xid) (sym c.in-Some.ensures.cases.0) ∙ c.loop-last.invariant.same;
-  few = (let one = c.in-Some.ensures.cases.1 in let few = c.loop-last.invariant.few in omega (arith, one, few));
+  same = sym (get_none c.in-Some.others.now c.in-Some.last.now c.args.xid
+      (sym c.in_default-get.ensures.value))
+      ∙ ap (λ (ms : List (BTreeMap ℕ CompactCall)). last_in 0 ms c.args.xid) (sym c.in-Some.ensures.cases.0)
+      ∙ c.loop-last.invariant.same;
+  few = (let one = c.in-Some.ensures.cases.1 in let few = c.loop-last.invariant.few in
+      omega (arith, one, few));
 }
 
 pub returns : goal.returns
-returns c = sym (none_left c.loop-last.left.now c.args.xid c.in_default.ensures.cases) ∙ c.loop-last.invariant.same
+returns c = sym (none_left c.loop-last.left.now c.args.xid c.in_default.ensures.cases)
+    ∙ c.loop-last.invariant.same

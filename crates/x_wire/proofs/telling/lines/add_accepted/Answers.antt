@@ -25,8 +25,10 @@ returns g c =
     let details = accept_details (accept_of stat) in
     let added = three c.args.pen.now c.add_reply_line.new.pen c.add_auth.new.pen c.add_accept_details.new.pen
     start (g.S.Sink.state c.add_reply_line.new.sink) (g.S.Sink.state c.add_auth.new.sink) end
-    (reply_line heading.id.number heading.id.xid (codes "accepted " ++ c.text.result.now) heading.call heading.name.now) verf details
+    (reply_line heading.id.number heading.id.xid (codes "accepted " ++ c.text.result.now) heading.call
+    heading.name.now) verf details
     c.add_reply_line.ensures c.add_auth.ensures c.add_accept_details.ensures in
     subst (λ word. Adds c.args.pen.now start c.add_accept_details.new.pen end
-    (reply_line heading.id.number heading.id.xid (codes "accepted " ++ word) heading.call heading.name.now ++ verf ++ details))
+    (reply_line heading.id.number heading.id.xid (codes "accepted " ++ word) heading.call heading.name.now
+    ++ verf ++ details))
     (c.text.ensures ∙ name_of stat) added

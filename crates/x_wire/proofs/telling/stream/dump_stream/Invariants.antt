@@ -10,5 +10,6 @@ invariant-loop g l = record {
   room : 0 < vec_len l.block;
   few : vec_len l.block ≤ most_block;
   tap_is : (g.R.Tap.state l.tap).failed ≡ (g.R.Tap.state l.fn.tap).failed;
-  runs : IsRunning l.schema (g.S.Sink.state l.fn.sink) (g.R.Tap.state l.fn.tap).bytes (g.R.Tap.state l.tap).bytes l.dumper l.pen (g.S.Sink.state l.sink);
+  runs : IsRunning l.schema (g.S.Sink.state l.fn.sink) (g.R.Tap.state l.fn.tap).bytes
+      (g.R.Tap.state l.tap).bytes l.dumper l.pen (g.S.Sink.state l.sink);
 }

@@ -13,9 +13,12 @@ loop-case-preserved c =
     let item = c.case-item.result in
     let rest = drop (c.loop-case.case-index + 1) c.args.cases.now in
     let front : drop c.loop-case.case-index c.args.cases.now ≡ item ∷ rest =
-    drop_more c.args.cases.now c.loop-case.case-index _ c.loop-case-test.true ∙ ap (λ x. x ∷ rest) (sym c.case-item.is) in
+    drop_more c.args.cases.now c.loop-case.case-index _ c.loop-case-test.true
+    ∙ ap (λ x. x ∷ rest) (sym c.case-item.is) in
     reads_over (λ xs. cases_by glossed true (map view_value xs)) item _ rest front refl c.loop-case.invariant
-    (reads_next (reads c.skip.ensures) (reads_next {ys = _ ∷ []} c.in_ok-value.ensures (reads c.skip-in-loop-case.ensures)))
+    (reads_next (reads c.skip.ensures)
+    (reads_next {ys = _ ∷ []} c.in_ok-value.ensures (reads c.skip-in-loop-case.ensures)))
 
 pub returns : goal.returns
-returns c = reads_end (λ xs. cases_by glossed true (map view_value xs)) _ (drop_all _ _ c.loop-case-test.false) refl c.loop-case.invariant
+returns c = reads_end (λ xs. cases_by glossed true (map view_value xs)) _
+    (drop_all _ _ c.loop-case-test.false) refl c.loop-case.invariant

@@ -9,6 +9,9 @@ returns c =
     let found = c.body.new.self.glossary in
     reads_next (reads (found_here c.in_ok-note.ensures c.skip.ensures))
     (reads_less (view_body c.args.body.now) c.in_ok-body.ensures refl
-    (c.truncate.ensures.items ∙ ap (λ n. take n found.declared.items) (c.len-declared.ensures ∙ noted.declared.ok.0))
-    (c.truncate-2.ensures.items ∙ ap (λ n. take n found.mentioned.items) (c.len-mentioned.ensures ∙ noted.mentioned.ok.0))
-    (c.truncate-3.ensures.items ∙ ap (λ n. take n found.notes.items) (c.len-notes.ensures ∙ noted.notes.ok.0)))
+    (c.truncate.ensures.items
+    ∙ ap (λ n. take n found.declared.items) (c.len-declared.ensures ∙ noted.declared.ok.0))
+    (c.truncate-2.ensures.items
+    ∙ ap (λ n. take n found.mentioned.items) (c.len-mentioned.ensures ∙ noted.mentioned.ok.0))
+    (c.truncate-3.ensures.items
+    ∙ ap (λ n. take n found.notes.items) (c.len-notes.ensures ∙ noted.notes.ok.0)))

@@ -13,9 +13,12 @@ loop-enumerator-preserved c =
     let item = c.enumerator-item.result in
     let rest = drop (c.loop-enumerator.enumerator-index + 1) c.args.enumerators.now in
     let front : drop c.loop-enumerator.enumerator-index c.args.enumerators.now ≡ item ∷ rest =
-    drop_more c.args.enumerators.now c.loop-enumerator.enumerator-index _ c.loop-enumerator-test.true ∙ ap (λ x. x ∷ rest) (sym c.enumerator-item.is) in
-    reads_over (λ xs. other_enumerators_by glossed true (map view_enumerator xs)) item _ rest front refl c.loop-enumerator.invariant
+    drop_more c.args.enumerators.now c.loop-enumerator.enumerator-index _ c.loop-enumerator-test.true
+    ∙ ap (λ x. x ∷ rest) (sym c.enumerator-item.is) in
+    reads_over (λ xs. other_enumerators_by glossed true (map view_enumerator xs)) item _ rest front refl
+    c.loop-enumerator.invariant
     (reads_next (reads c.skip.ensures) c.in_ok-enumerator.ensures)
 
 pub returns : goal.returns
-returns c = reads_end (λ xs. other_enumerators_by glossed true (map view_enumerator xs)) _ (drop_all _ _ c.loop-enumerator-test.false) refl c.loop-enumerator.invariant
+returns c = reads_end (λ xs. other_enumerators_by glossed true (map view_enumerator xs)) _
+    (drop_all _ _ c.loop-enumerator-test.false) refl c.loop-enumerator.invariant

@@ -13,9 +13,12 @@ loop-argument-preserved c =
     let item = c.argument-item.result in
     let rest = drop (c.loop-argument.argument-index + 1) c.args.others.now in
     let front : drop c.loop-argument.argument-index c.args.others.now ≡ item ∷ rest =
-    drop_more c.args.others.now c.loop-argument.argument-index _ c.loop-argument-test.true ∙ ap (λ x. x ∷ rest) (sym c.argument-item.is) in
-    reads_over (λ xs. others_by glossed true (map view_argument xs)) item _ rest front refl c.loop-argument.invariant
+    drop_more c.args.others.now c.loop-argument.argument-index _ c.loop-argument-test.true
+    ∙ ap (λ x. x ∷ rest) (sym c.argument-item.is) in
+    reads_over (λ xs. others_by glossed true (map view_argument xs)) item _ rest front refl
+    c.loop-argument.invariant
     (reads_next (reads c.skip.ensures) c.in_ok-argument.ensures)
 
 pub returns : goal.returns
-returns c = reads_end (λ xs. others_by glossed true (map view_argument xs)) _ (drop_all _ _ c.loop-argument-test.false) refl c.loop-argument.invariant
+returns c = reads_end (λ xs. others_by glossed true (map view_argument xs)) _
+    (drop_all _ _ c.loop-argument-test.false) refl c.loop-argument.invariant

@@ -13,9 +13,12 @@ loop-procedure-preserved c =
     let item = c.procedure-item.result in
     let rest = drop (c.loop-procedure.procedure-index + 1) c.args.procedures.now in
     let front : drop c.loop-procedure.procedure-index c.args.procedures.now ≡ item ∷ rest =
-    drop_more c.args.procedures.now c.loop-procedure.procedure-index _ c.loop-procedure-test.true ∙ ap (λ x. x ∷ rest) (sym c.procedure-item.is) in
-    reads_over (λ xs. procedures_by glossed true (map view_procedure xs)) item _ rest front refl c.loop-procedure.invariant
+    drop_more c.args.procedures.now c.loop-procedure.procedure-index _ c.loop-procedure-test.true
+    ∙ ap (λ x. x ∷ rest) (sym c.procedure-item.is) in
+    reads_over (λ xs. procedures_by glossed true (map view_procedure xs)) item _ rest front refl
+    c.loop-procedure.invariant
     (c.in_ok-procedure.ensures)
 
 pub returns : goal.returns
-returns c = reads_end (λ xs. procedures_by glossed true (map view_procedure xs)) _ (drop_all _ _ c.loop-procedure-test.false) refl c.loop-procedure.invariant
+returns c = reads_end (λ xs. procedures_by glossed true (map view_procedure xs)) _
+    (drop_all _ _ c.loop-procedure-test.false) refl c.loop-procedure.invariant

@@ -13,13 +13,18 @@ loop-index-preserved g c =
     let start = g.S.Sink.state c.args.sink.now in
     let mid = g.S.Sink.state c.loop-index.sink in
     let told = c.add_line_at.ensures in
-    let lt : i < length nodes = let h = c.loop-index-test.true in let e = c.len-index-end.ensures in omega (arith, h, e) in
-    lists_more node_line nodes (drop (i + 1) nodes) told.0 c.args.pen.now c.loop-index.pen c.add_line_at.new.pen start mid (g.S.Sink.state c.add_line_at.new.sink)
-    (subst (λ ns. HasListed Node node_line nodes ns c.args.pen.now start c.loop-index.pen mid) (left_at nodes i told.0 lt told.1) c.loop-index.invariant)
+    let lt : i < length nodes = let h = c.loop-index-test.true in let e = c.len-index-end.ensures in
+    omega (arith, h, e) in
+    lists_more node_line nodes (drop (i + 1) nodes) told.0 c.args.pen.now c.loop-index.pen
+    c.add_line_at.new.pen start mid (g.S.Sink.state c.add_line_at.new.sink)
+    (subst (λ ns. HasListed Node node_line nodes ns c.args.pen.now start c.loop-index.pen mid)
+    (left_at nodes i told.0 lt told.1) c.loop-index.invariant)
     told.2
 
 pub returns : goal.returns
 returns g c =
     let nodes = c.args.self.now in
-    lists_all node_line nodes (drop c.loop-index.index nodes) c.args.pen.now c.loop-index.pen (g.S.Sink.state c.args.sink.now) (g.S.Sink.state c.loop-index.sink)
-    (drop_none nodes c.loop-index.index (let over = c.loop-index-test.false in let e = c.len-index-end.ensures in omega (arith, over, e))) c.loop-index.invariant
+    lists_all node_line nodes (drop c.loop-index.index nodes) c.args.pen.now c.loop-index.pen
+    (g.S.Sink.state c.args.sink.now) (g.S.Sink.state c.loop-index.sink)
+    (drop_none nodes c.loop-index.index (let over = c.loop-index-test.false in
+    let e = c.len-index-end.ensures in omega (arith, over, e))) c.loop-index.invariant

@@ -9,7 +9,8 @@ returns-then-count-eq-HEADER_LEN-clause-took c =
     took_header c.args.self.now c.pass_header.new.self c.args.bytes c.args.count c.args.byte
     c.saturating_add-self.result c.read_u32.result c.args.is_open c.pass_header.result
     c.requires.phase c.requires.ready c.if-count-eq-HEADER_LEN.true c.saturating_add-self.ensures
-    (c.read_u32.ensures ∙ big_number_4 (slice_set c.args.bytes c.args.count c.args.byte)) c.pass_header.ensures.made
+    (c.read_u32.ensures ∙ big_number_4 (slice_set c.args.bytes c.args.count c.args.byte))
+    c.pass_header.ensures.made
 
 pub returns-clause-took : goal.returns-clause-took
 returns-clause-took c =

@@ -14,6 +14,7 @@ returns-in-Some c =
 
 pub returns-in-None : goal.returns-in-None
 returns-in-None c =
-    c.last_before.ensures ∙ ap (λ (ms : List (BTreeMap ℕ CompactCall)). last_in 0 ms c.args.xid) c.deref.ensures.value
+    c.last_before.ensures ∙ ap (λ (ms : List (BTreeMap ℕ CompactCall)). last_in 0 ms c.args.xid)
+    c.deref.ensures.value
     ∙ sym (get_none c.self.inside.before.items c.self.inside.last c.args.xid (sym c.in-None.ensures.value))
     ∙ ap (λ (s : CountedCalls). last_call s c.args.xid) c.self.view_is

@@ -29,11 +29,11 @@ pub record HasTables (e : TextEdit) (uses fresh : UseTable) : Type 0 where
   pub put_uses : IsUsesOf e.put fresh
 
 -- the edit that the program has of a text that is seen so
-abbrev pub edit_of : {L : Type 0} → (L → CheckedText) → EditedItems L → TextEdit
-edit_of text items = edit_at (text items.old.now) items.place (map tree_at items.put.now)
+abbrev pub text_edit : {L : Type 0} → (L → CheckedText) → EditedItems L → TextEdit
+text_edit text items = edit_at (text items.old.now) items.place (map tree_at items.put.now)
 
 abbrev pub AreEditedItems : {L : Type 0} → (L → CheckedText) → EditedItems L → Type 0
-AreEditedItems text items = HasTables (edit_of text items) items.uses.now items.fresh.now
+AreEditedItems text items = HasTables (text_edit text items) items.uses.now items.fresh.now
 
 -- ---- what an item sees
 
@@ -72,8 +72,8 @@ MeansSame e after name low = (o f : Declarer) → first_declarer e.old name ≡ 
     → f.item < low → meaning_at (result_at e.outcomes) o ≡ meaning_at (result_at after) f
 
 -- an item with a definition is kept
-abbrev pub IsKept : TextEdit → ℕ → Type 0
-IsKept e k = (d : Definition) → definition_at (definitions_after e) k ≡ Some d
+abbrev pub IsOfOld : TextEdit → ℕ → Type 0
+IsOfOld e k = (d : Definition) → definition_at (definitions_after e) k ≡ Some d
     → (was : ℕ) × (old_number e.place k ≡ Some was)
 
 -- the item is kept, and declares or uses the name
@@ -86,12 +86,12 @@ pub record IsKeptUser (e : TextEdit) (k : ℕ) (name : List ℕ) : Type 0 where
 
 -- an item with a definition is kept, and sees each of its names as before
 pub record IsUnchanged (e : TextEdit) (after : List (Option Outcome)) (k : ℕ) : Type 0 where
-  pub kept : IsKept e k
+  pub kept : IsOfOld e k
   pub same : (name : List ℕ) → (u : IsKeptUser e k name) → SeesSame e (result_at after) u.was k name
 
 -- so it is by what is known of the items below `low`
 pub record IsSettled (e : TextEdit) (after : List (Option Outcome)) (low k : ℕ) : Type 0 where
-  pub kept : IsKept e k
+  pub kept : IsOfOld e k
   pub alike : (name : List ℕ) → IsKeptUser e k name → HasAlike e name
   pub means : (name : List ℕ) → IsKeptUser e k name → MeansSame e after name low
 
