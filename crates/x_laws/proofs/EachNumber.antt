@@ -13,10 +13,10 @@ use Rattle.x_trees.specs.Mentions.{Mention, mentioned}
 use Rattle.x_trees.specs.Names.{declared}
 use Rattle.x_trees.specs.declared.names.mention.Use.TheVariants as uses
 use Rattle.x_trees.proofs.AmongLemmas.{among_cases, among_none}
-use Rattle.x_numbers.specs.Numbers.{in_range, is_enum_number, is_word_number, number_spelled}
+use Rattle.x_numbers.specs.Numbers.{in_range, is_word_number, number_spelled}
 use Rattle.x_outline.specs.Bodies.{EnumeratorAt, enumerators}
 use Rattle.x_rules.specs.Constants.{Known, is_declared_before, knowns, limit_of, number_at, number_before}
-use Rattle.x_rules.specs.Constants.{number_named, number_seen}
+use Rattle.x_rules.specs.Constants.{number_seen}
 use Rattle.x_rules.specs.Results.{AreResults, Outcome, no_names, result_at, view_by}
 use Rattle.x_rules.specs.Rules.{HasRole, IsBadSize, IsEmptyArray, IsNoConstant, size_role, value_role}
 use Rattle.x_rules.specs.declared.fault.RuleCode.TheVariants as rule_codes

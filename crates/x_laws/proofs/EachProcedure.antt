@@ -1,8 +1,8 @@
 -- Each procedure of a text without a fault has its numbers, and a schema has the first of its numbers.
-use Rattle.std.proofs.Common.{◌≡◌, ◌<◌, ◌^◌, ◌⊎◌, inl, inr, ℕ, zero, suc, ℤ, pos, negsuc, Bool, true, false}
+use Rattle.std.proofs.Common.{◌≡◌, ◌^◌, ◌⊎◌, inl, inr, ℕ, zero, suc, ℤ, pos, negsuc, Bool, true, false}
 use Rattle.std.proofs.Common.{cond, map, List, [], ◌∷◌, ◌++◌, length, Option, None, Some, refl, sym, ap}
 use Rattle.std.proofs.Common.{subst, ◌∙◌, arith}
-use Rattle.std.specs.Prelude.{is_some, nat_le, nat_lt, neg_ℤ, option_and_then, slice_get}
+use Rattle.std.specs.Prelude.{is_some, nat_le, nat_lt, neg_ℤ, option_and_then}
 use Rattle.std.specs.List.{IsAmong, flat_map}
 use Rattle.std.specs.Map.{lookup}
 use Rattle.std.proofs.lemmas.Bool.Decides.{nat_tests}
@@ -13,17 +13,16 @@ use Rattle.x_trees.specs.Tree as tree
 use Rattle.x_trees.specs.Tree.{Definition}
 use Rattle.x_trees.specs.Words.{Fixed, Name, Number}
 use Rattle.x_trees.specs.Gloss.{Gloss, ProcedureNumber, ProgramNumber, Role, VersionNumber, gloss, glossed}
-use Rattle.x_trees.specs.Gloss.{others_by, passed_by, procedure_by, procedures_by, roles_where, version_by}
+use Rattle.x_trees.specs.Gloss.{others_by, passed_by, procedure_by, procedures_by, version_by}
 use Rattle.x_trees.specs.Gloss.{versions_by}
 use Rattle.x_trees.specs.Gloss.{Declares, ProcedureName, VersionName, VoidArgument, VoidResult}
 use Rattle.x_trees.specs.declared.names.declared_name.NameKind.TheVariants as kinds
 use Rattle.x_trees.proofs.AmongLemmas.{among_cases, among_first, among_front, among_more, among_none}
 use Rattle.x_trees.proofs.AmongLemmas.{among_parts, among_rear}
-use Rattle.x_numbers.specs.Numbers.{in_range, is_negative, is_word_number, magnitude, number_spelled, value}
+use Rattle.x_numbers.specs.Numbers.{in_range, is_negative, is_word_number, magnitude, value}
 use Rattle.x_rules.specs.Results.{AreResults, Outcome, no_names}
 use Rattle.x_rules.specs.Rules.{HasRole, IsNoNumber, number_role}
 use Rattle.x_rules.specs.declared.fault.RuleCode.TheVariants as rule_codes
-use Rattle.x_schema.specs.ProceduresOf as told
 use Rattle.x_schema.specs.ProceduresOf.{AreProceduresBehind, Numbered, Table, word_spelled, numbers_by}
 use Rattle.x_schema.specs.ProceduresOf.{numbers_from, procedures_declared, procedures_in, procedures_of}
 use Rattle.x_schema.specs.ProceduresOf.{with_procedure}
@@ -222,10 +221,10 @@ number_known text is =
 
 -- ---- the words of a program's numbers
 
-abbrev IsThere : Definition → Role → Type 0
+abbrev pub IsThere : Definition → Role → Type 0
 IsThere d role = (word : ℕ) × HasRole d word role
 
-there : (d : Definition) (g : Gloss) (role : Role) → IsAmong (gloss d) g → g.roles ≡ role ∷ []
+pub there : (d : Definition) (g : Gloss) (role : Role) → IsAmong (gloss d) g → g.roles ≡ role ∷ []
     → IsThere d role
 there d g role (i, h) one = (
   i,
@@ -237,7 +236,7 @@ there d g role (i, h) one = (
 )
 
 -- the gloss of a number
-abbrev numbered : List ℕ → Role → Gloss
+abbrev pub numbered : List ℕ → Role → Gloss
 numbered text role = glossed (Number text) (role ∷ [])
 
 -- it stands behind `}` or `)`, and `=`
@@ -268,7 +267,7 @@ in_procedure p =
     (among_more name g (opening ∷ (passed ++ last)) (among_more opening g (passed ++ last)
     (among_rear passed last g (at_end p.number (ProcedureNumber p.number) parenthesis))))
 
-in_procedures : (ps : List tree.Procedure) (p : tree.Procedure) → IsAmong ps p
+pub in_procedures : (ps : List tree.Procedure) (p : tree.Procedure) → IsAmong ps p
     → IsAmong (procedures_by glossed true ps) (numbered p.number (ProcedureNumber p.number))
 in_procedures [] p among = absurd (among_none p among)
 in_procedures (x ∷ xs) p among = by (among_cases x p xs among) (λ rest. in_procedures xs p rest)
@@ -307,14 +306,14 @@ in_braces keyword name text roles role inside g which =
     by (inr is) = among_rear inside last g (subst (IsAmong last) (sym is) (at_end text role brace))
 
 -- the words of a version: its own number, and those of its procedures
-in_version : (v : tree.Version) (g : Gloss)
+pub in_version : (v : tree.Version) (g : Gloss)
     → IsAmong (procedures_by glossed true v.procedures) g ⊎ (g ≡ numbered v.number (VersionNumber v.number))
     → IsAmong (version_by glossed true v) g
 in_version v g which =
     in_braces marks.Version v.name v.number (VersionName v.name ∷ []) (VersionNumber v.number)
     (procedures_by glossed true v.procedures) g which
 
-in_versions : (vs : List tree.Version) (v : tree.Version) (g : Gloss) → IsAmong vs v
+pub in_versions : (vs : List tree.Version) (v : tree.Version) (g : Gloss) → IsAmong vs v
     → IsAmong (version_by glossed true v) g → IsAmong (versions_by glossed true vs) g
 in_versions [] v g among has = absurd (among_none v among)
 in_versions (x ∷ xs) v g among has = by (among_cases x v xs among) (λ rest. in_versions xs v g rest has)
@@ -327,7 +326,7 @@ in_versions (x ∷ xs) v g among has = by (among_cases x v xs among) (λ rest. i
     by (inr rest) next = among_rear (version_by glossed true x) (versions_by glossed true xs) g (next rest)
 
 -- the words of a program: its own number, and those of its versions
-in_program : (name number : List ℕ) (versions : List tree.Version) (g : Gloss)
+pub in_program : (name number : List ℕ) (versions : List tree.Version) (g : Gloss)
     → IsAmong (versions_by glossed true versions) g ⊎ (g ≡ numbered number (ProgramNumber number))
     → IsAmong (gloss (tree.Program name versions number)) g
 in_program name number versions g which =
@@ -336,7 +335,7 @@ in_program name number versions g which =
 
 -- ---- procedures
 
-among_flat : {X Y : Type 0} (f : X → List Y) (xs : List X) (y : Y) → IsAmong (flat_map f xs) y
+pub among_flat : {X Y : Type 0} (f : X → List Y) (xs : List X) (y : Y) → IsAmong (flat_map f xs) y
     → (x : X) × IsAmong xs x × IsAmong (f x) y
 among_flat f [] y h = absurd (among_none y h)
 among_flat {X} {Y} f (x ∷ xs) y h = by (among_parts (f x) (flat_map f xs) y h) (λ k. among_flat f xs y k)
@@ -347,7 +346,7 @@ among_flat {X} {Y} f (x ∷ xs) y h = by (among_parts (f x) (flat_map f xs) y h)
     by (inl here) next = (x, among_first x xs, here)
     by (inr rest) next = let r = next rest in (r.0, among_more x r.0 xs r.1, r.2)
 
-among_mapped : {X Y : Type 0} (f : X → Y) (xs : List X) (y : Y) → IsAmong (map f xs) y
+pub among_mapped : {X Y : Type 0} (f : X → Y) (xs : List X) (y : Y) → IsAmong (map f xs) y
     → (x : X) × IsAmong xs x × (y ≡ f x)
 among_mapped f [] y h = absurd (among_none y h)
 among_mapped {X} {Y} f (x ∷ xs) y h = by (among_cases (f x) y (map f xs) h) (λ k. among_mapped f xs y k)
@@ -391,7 +390,7 @@ are_there (tree.Program name versions number) p among =
           (in_version v last (inl (in_procedures v.procedures q one.1)))))) refl;
     })
 
-number_has : (definitions : List (Option Definition)) (results : List (Option Outcome)) (item : ℕ)
+pub number_has : (definitions : List (Option Definition)) (results : List (Option Outcome)) (item : ℕ)
     (d : Definition) (role : Role) (text : List ℕ) → IsFine definitions results item d → IsThere d role
     → number_role role ≡ Some text → (n : ℕ) × (word_spelled text ≡ Some n)
 number_has definitions results item d role text h at is = number_known text
@@ -403,6 +402,22 @@ number_has definitions results item d role text h at is = number_known text
         let broken : IsNoNumber d at.0 =
         record { role = role; has_role = at.1; text = text; is_number = is; outside = e } in
         absurd (no_fault definitions results item d at.0 rule_codes.Range h (inr (inr (inl broken))))
+
+pub numbers_have : (definitions : List (Option Definition)) (results : List (Option Outcome)) (item : ℕ)
+    (d : Definition) (p : Numbered) → IsFine definitions results item d
+    → IsAmong (procedures_declared (Some d)) p → (numbers : ProcedureNumbers) × (numbers_by p ≡ Some numbers)
+numbers_have definitions results item d p h has =
+    let words = are_there d p has in
+    let program =
+    number_has definitions results item d (ProgramNumber p.program) p.program h words.program refl in
+    let version =
+    number_has definitions results item d (VersionNumber p.version) p.version h words.version refl in
+    let procedure =
+    number_has definitions results item d
+    (ProcedureNumber p.procedure.number) p.procedure.number h words.procedure refl in (
+      record { program = program.0; version = version.0; procedure = procedure.0 },
+      λ k. numbers_from (program.1 k) (version.1 k) (procedure.1 k),
+    )
 
 pub each_procedure : (definitions : List (Option Definition)) (results : List (Option Outcome))
     → AreResults no_names definitions results → AreFaultless results → (p : Numbered)
@@ -417,14 +432,4 @@ each_procedure definitions results are fine p among =
     by (Some d) (i, item) has =
         let here = slice_get_read definitions (length definitions) i (Some d) refl item.0 item.1 in
         let h : IsFine definitions results i d = record { are = are; fine = fine; there = here } in
-        let words = are_there d p has in
-        let program =
-        number_has definitions results i d (ProgramNumber p.program) p.program h words.program refl in
-        let version =
-        number_has definitions results i d (VersionNumber p.version) p.version h words.version refl in
-        let procedure =
-        number_has definitions results i d
-        (ProcedureNumber p.procedure.number) p.procedure.number h words.procedure refl in (
-          record { program = program.0; version = version.0; procedure = procedure.0 },
-          λ k. numbers_from (program.1 k) (version.1 k) (procedure.1 k),
-        )
+        numbers_have definitions results i d p h has

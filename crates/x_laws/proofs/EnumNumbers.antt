@@ -23,9 +23,11 @@ use Rattle.x_rules.specs.Constants.{number_named, enumerator_number, number_seen
 use Rattle.x_rules.specs.Results.{Outcome, AreResults, no_names}
 use Rattle.x_rules.specs.Rules.{HasRole}
 use Rattle.x_rules.specs.Views.{View}
-use Rattle.x_schema.specs.SchemaOf.{Numbers, number_given as number_behind, numbers_of, signed_word}
-use Rattle.x_schema.specs.SchemaOf.{with_word, words_from}
-use Rattle.x_laws.specs.Meant.{AreFaultless, number_meant, sees, words_meant}
+use Rattle.x_schema.specs.Schema.{Schema}
+use Rattle.x_schema.specs.SchemaOf.{IsBody, IsEnum, Numbers, number_given as number_behind, numbers_of}
+use Rattle.x_schema.specs.SchemaOf.{signed_word, with_word, words_from}
+use Rattle.x_schema.specs.Schemas.{IsSchemaOf}
+use Rattle.x_laws.specs.Meant.{AreFaultless, HasEnum, number_meant, sees, whole, words_meant}
 use Rattle.x_laws.proofs.EnumWords.{AllTold, Ascends, GivenAt, IsTold, enums_told, in_order, told_declared}
 use Rattle.x_laws.proofs.Faultless.{only_declarer}
 use Rattle.x_laws.proofs.NumberFold.{first_given, given_number, other_given}
@@ -291,3 +293,19 @@ enum_numbers definitions results are fine item d there b es among is =
     (all_along definitions results item d are fine there)) in
     enum_words (numbers_of definitions) (number_meant definitions results) rear.before (b.at + 1) es
     (enumerators_in parts.rear) rear.along
+
+-- where a schema has the enum, the words are those that its names mean
+pub enum_in_schema : (definitions : List (Option Definition)) (results : List (Option Outcome)) (s : Schema)
+    → AreResults no_names definitions results → AreFaultless results → IsSchemaOf definitions s → (item : ℕ)
+    (d : Definition) → slice_get definitions item ≡ Some (Some d) → (b : BodyAt) (es : List tree.Enumerator)
+    → IsAmong (bodies d) b → b.body ≡ tree.Enum es → (place : ℕ)
+    → IsBody s (whole definitions s) b.body place
+    → HasEnum s place (words_meant (number_meant definitions results) [] es)
+enum_in_schema definitions results s are fine h item d there b es among is place has =
+    let enum : IsEnum s (numbers_of definitions) es place =
+    subst (λ body. IsBody s (whole definitions s) body place) is has in
+    record {
+      names = enum.names;
+      form = enum.form;
+      words_are = enum.first ∙ enum_numbers definitions results are fine item d there b es among is;
+    }

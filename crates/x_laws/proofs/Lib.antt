@@ -11,6 +11,7 @@ pub mod EachProcedure
 pub mod EnumNumbers
 pub mod EnumWords
 pub mod Faultless
+pub mod FirstPrograms
 pub mod GoodNumbers
 pub mod Held
 pub mod Mentioned
@@ -18,6 +19,7 @@ pub mod NoFaults
 pub mod NoTypedefs
 pub mod NumberFold
 pub mod NumberMeant
+pub mod OnceNumbered
 pub mod OneAnswer
 pub mod OneBefore
 pub mod OneDump

@@ -9,7 +9,7 @@ use Rattle.x_lex.specs.declared.kind.Kind.{Kind}
 use Rattle.x_trees.specs.Declarations.{name_of}
 use Rattle.x_trees.specs.Mentions.{Mention, mentioned}
 use Rattle.x_trees.specs.Tree as tree
-use Rattle.x_trees.specs.Tree.{Arms, Body, Declaration, Definition, Enumerator, Procedure, Value}
+use Rattle.x_trees.specs.Tree.{Arms, Body, Declaration, Definition, Enumerator, Procedure, Value, Version}
 use Rattle.x_trees.specs.declared.names.mention.Use.TheVariants as uses
 use Rattle.x_names.specs.Declarers.{IsFirstDeclarer}
 use Rattle.x_names.specs.declared.names.Declarer.{Declarer}
@@ -25,11 +25,11 @@ use Rattle.x_trees.specs.declared.names.declared_name.NameKind.{NameKind}
 use Rattle.x_trees.specs.Seen.{names_of}
 use Rattle.x_compile.specs.Compile.{IsCompilation, Item, faults_of}
 use Rattle.x_compile.specs.Known.{nothing_known}
-use Rattle.x_schema.specs.ProceduresOf.{IsProcedure, Numbered, numbers_by, procedures_of}
+use Rattle.x_schema.specs.ProceduresOf.{IsProcedure, Numbered, numbers_by, procedures_of, word_spelled}
 use Rattle.x_schema.specs.Choices.{Choice}
-use Rattle.x_schema.specs.Schema.{Schema, form_at, procedure_at}
+use Rattle.x_schema.specs.Schema.{Schema, form_at, name_at, procedure_at}
 use Rattle.x_schema.specs.SchemaOf.{Known, IsArmOf, IsDeclared, case_word, numbers_of, place_in, signed_word}
-use Rattle.x_schema.specs.SchemaOf.{typedefs, with_word, word_by}
+use Rattle.x_schema.specs.SchemaOf.{enum_form, typedefs, with_word, word_by}
 use Rattle.x_schema.specs.Sound.{is_legal}
 use Rattle.x_schema.specs.declared.form.Arm.{Arm}
 use Rattle.x_schema.specs.declared.form.Field.{Field}
@@ -101,6 +101,12 @@ abbrev pub words_meant : (List ℕ → Option ℤ) → List (ℕ × List ℕ) �
 words_meant meant words [] = words
 words_meant meant words (e ∷ es) =
     words_meant meant (with_word words (option_and_then signed_word (meant e.name)) e.name) es
+
+-- The place has an enum of these words, each with its name; an enum of none is `void`.
+pub record HasEnum (s : Schema) (place : ℕ) (words : List (ℕ × List ℕ)) : Type 0 where
+  pub names : List (ℕ × ℕ)
+  pub form : form_at s place ≡ enum_form names
+  pub words_are : map (λ e. (e.0, name_at s e.1)) names ≡ words
 
 -- ---- a text
 
@@ -185,3 +191,22 @@ pub record HasProcedure (s : Schema) (numbers : ProcedureNumbers) (p : Procedure
   pub kept : CompactProcedure
   pub found : procedure_at s numbers ≡ Some kept
   pub is_procedure : IsProcedure s p kept
+
+-- what is told of one of the list is told of no other
+abbrev pub NoneTwice : {X Y : Type 0} → (X → Y) → List X → Type 0
+NoneTwice {X} told xs =
+    (front rear : List X) (here : X) → xs ≡ front ++ here ∷ rear → (other : X) → IsAmong front other
+    → told other ≡ told here → ⊥
+
+-- the item of a program, with its versions and its number as it is spelled
+pub record IsProgramAt (definitions : List (Option Definition)) (item : ℕ) (versions : List Version)
+    (number : List ℕ) : Type 0 where
+  pub name : List ℕ
+  pub item_is : slice_get definitions item ≡ Some (Some (tree.Program name versions number))
+
+-- that of a program of which no program before it in the text has the number
+pub record IsFirstProgram (definitions : List (Option Definition)) (item : ℕ) (versions : List Version)
+    (number : List ℕ) : Type 0 where
+  pub is_program : IsProgramAt definitions item versions number
+  pub none_before : (earlier : ℕ) (others : List Version) (text : List ℕ) → earlier < item
+      → IsProgramAt definitions earlier others text → word_spelled text ≡ word_spelled number → ⊥

@@ -3,20 +3,21 @@
 
 ghost use Rattle.std.specs.Prelude.{◌≡◌, ◌≢◌, ◌↔◌, ◌≤◌, ℕ, pos, Bool, true, List, [], length, map, slice_get};
 ghost use Rattle.std.specs.Prelude.{◌∷◌, ◌++◌, ℤ, Option, Some, IsSome};
-ghost use Rattle.std.specs.List.{All, IsAmong};
+ghost use Rattle.std.specs.List.{All, IsAmong, flat_map};
 ghost use Rattle.std.specs.Map.{lookup};
 ghost use Rattle.std.specs.Str.{bytes_eq};
 ghost use Rattle.x_text.specs.Limits.{most_text};
 ghost use Rattle.x_lex.specs.declared.kind.Kind.{Kind};
 ghost use Rattle.x_trees.specs.Gloss.{FixedSize, Role};
-ghost use Rattle.x_trees.specs.Tree.{Declaration, Definition, Enum, Enumerator, Value};
+ghost use Rattle.x_trees.specs.Tree.{Declaration, Definition, Enum, Enumerator, Procedure, Value, Version};
 ghost use Rattle.x_outline.specs.Bodies.{BodyAt, EnumeratorAt, ValueAt, bodies, cases_of, enumerators};
 ghost use Rattle.x_rules.specs.Constants.{number_at};
 ghost use Rattle.x_rules.specs.Results.{Outcome, AreResults, no_names};
 ghost use Rattle.x_rules.specs.Rules.{HasRole, IsOutside, IsSwitch, size_role, value_role};
 ghost use Rattle.x_rules.specs.Views.{Class, Other};
 ghost use Rattle.x_rules.specs.declared.fault.RuleCode.TheVariants.{Unknown};
-ghost use Rattle.x_schema.specs.ProceduresOf.{Numbered, numbers_by, procedures_of};
+ghost use Rattle.x_schema.specs.ProceduresOf.{Numbered, numbers_by, numbers_from, procedures_in};
+ghost use Rattle.x_schema.specs.ProceduresOf.{procedures_of, word_spelled};
 ghost use Rattle.x_schema.specs.Schema.{Schema, IsProcedureAt, form_at, id_named, named_type, procedure_at};
 ghost use Rattle.x_schema.specs.SchemaOf.{IsBody, case_word, number_in, numbers_of, words_from};
 ghost use Rattle.x_schema.specs.Schemas.{IsSchemaOf};
@@ -40,9 +41,10 @@ ghost use Rattle.x_wire.specs.MessageTexts.{Told};
 ghost use Rattle.x_wire.specs.StreamTexts.{IsStreamText, IsTextOf};
 ghost use Rattle.x_opening.specs.Opening.{AreRead};
 ghost use Rattle.x_opening.specs.declared.known.KnownSource.{KnownSource};
-ghost use Rattle.x_laws.specs.Meant.{AreFaultless, HasCase, HasProcedure, HasWord, IsArrayNumber};
-ghost use Rattle.x_laws.specs.Meant.{IsAsDeclared, IsEnumNumber, IsFaultless, IsFirstOfNumbers, IsSizeNumber};
-ghost use Rattle.x_laws.specs.Meant.{IsTypeName, IsUnionIn, IsUsedAsType, MeansType};
+ghost use Rattle.x_laws.specs.Meant.{AreFaultless, HasCase, HasEnum, HasProcedure, HasWord, IsArrayNumber};
+ghost use Rattle.x_laws.specs.Meant.{IsAsDeclared, IsEnumNumber, IsFaultless, IsFirstOfNumbers};
+ghost use Rattle.x_laws.specs.Meant.{IsFirstProgram, IsProgramAt, IsSizeNumber, IsTypeName, IsUnionIn};
+ghost use Rattle.x_laws.specs.Meant.{IsUsedAsType, MeansType, NoneTwice};
 ghost use Rattle.x_laws.specs.Meant.{cases_declared, class_seen, number_meant, sees, whole, words_meant};
 ghost use Rattle.x_laws.specs.Places.{IsShownAt, PlacedNode, ShowsSlice};
 ghost use Rattle.x_laws.specs.Showing.{ShowsAlike, CallsAlike};
@@ -152,7 +154,7 @@ pub fn each_number()
 /// discriminant may have (`known`), which is what its form says, by the types of the whole text: a number is
 /// outside of the class exactly where no word of the form stands for it (`classes`). So each case of a union
 /// has a word (`words`), no two have the same one (`once`), and at each case's word a schema's union has the
-/// arm that is declared for it (`arms`): none is left out (RFC 4506, section 4.15).
+/// arm that is declared for it (`arms`): no case is left out (RFC 4506, section 4.15).
 pub fn each_case()
     ensures known { (text : List ℕ) (items : List Item) → IsFaultless text items → (item : ℕ)
         (d : Definition) → slice_get (definitions_of items) item ≡ Some (Some d) → (union : BodyAt)
@@ -191,7 +193,10 @@ pub fn each_case()
 
 /// In a text without a fault, before which nothing is known, each procedure has its three numbers, of 32 bits
 /// (`numbers`). A schema has, for three numbers, what is declared of the first procedure of the text that has
-/// them (`first`), and nothing where none has them (`no_other`).
+/// them (`first`), and nothing where none has them (`no_other`). No two versions of a program have one number
+/// (`versions`), and no two procedures of a version (`procedures`), so no two procedures of a program have
+/// the same three (`once`; RFC 5531, section 12.3). So a schema has each procedure of a program, where no
+/// program before it in the text has its number (`programs`).
 pub fn each_procedure()
     ensures numbers { (text : List ℕ) (items : List Item) → IsFaultless text items → (p : Numbered)
         → IsAmong (procedures_of (definitions_of items)) p
@@ -202,6 +207,24 @@ pub fn each_procedure()
     ensures no_other { (definitions : List (Option Definition)) (s : Schema) → IsSchemaOf definitions s
         → (numbers : ProcedureNumbers) (kept : CompactProcedure) → procedure_at s numbers ≡ Some kept
         → (p : Numbered) × IsAmong (procedures_of definitions) p × (numbers_by p ≡ Some numbers) }
+    ensures versions { (text : List ℕ) (items : List Item) → IsFaultless text items → (item : ℕ)
+        (versions : List Version) (number : List ℕ)
+        → IsProgramAt (definitions_of items) item versions number
+        → NoneTwice (λ (v : Version). word_spelled v.number) versions }
+    ensures procedures { (text : List ℕ) (items : List Item) → IsFaultless text items → (item : ℕ)
+        (versions : List Version) (number : List ℕ)
+        → IsProgramAt (definitions_of items) item versions number → (v : Version) → IsAmong versions v
+        → NoneTwice (λ (p : Procedure). word_spelled p.number) v.procedures }
+    ensures once { (text : List ℕ) (items : List Item) → IsFaultless text items → (item : ℕ)
+        (versions : List Version) (number : List ℕ)
+        → IsProgramAt (definitions_of items) item versions number
+        → NoneTwice numbers_by (flat_map (procedures_in number) versions) }
+    ensures programs { (text : List ℕ) (items : List Item) (s : Schema) → IsFaultless text items
+        → IsSchemaOf (definitions_of items) s → (item : ℕ) (versions : List Version) (number : List ℕ)
+        → IsFirstProgram (definitions_of items) item versions number → (v : Version) → IsAmong versions v
+        → (p : Procedure) → IsAmong v.procedures p → (numbers : ProcedureNumbers)
+        × (numbers_from (word_spelled number) (word_spelled v.number) (word_spelled p.number) ≡ Some numbers)
+        × HasProcedure s numbers p }
 {}
 
 /// In a text without a fault, before which nothing is known, the type of each name is as the name's first
@@ -221,7 +244,9 @@ pub fn schema_targets()
 /// fault, before which nothing is known, and of a schema of its definitions: that has the types that the
 /// text's names declare (`types`) and mean (`meant`), each as the name's first declarer declares it
 /// (`forms`), and one of each name that is used as a type (`uses`); the numbers by which it is made are those
-/// that names mean by the rules (`numbers`), and those by which the rules go at a word (`values`).
+/// that names mean by the rules (`numbers`), and those by which the rules go at a word (`values`). The words
+/// of each enum are those that its names mean, also without a value (`enumerators`), and where the schema has
+/// the enum it has these, each with its name (`enums`; RFC 4506, section 4.3).
 pub fn types_of_text()
     ensures types { (text : List ℕ) (items : List Item) (s : Schema) → IsFaultless text items
         → IsSchemaOf (definitions_of items) s → (name : List ℕ)
@@ -243,6 +268,17 @@ pub fn types_of_text()
         (v : Value) → HasRole d word role → value_role role ≡ Some v
         → number_in (numbers_of (definitions_of items)) v
         ≡ number_at (sees (definitions_of items) (map (λ i. i.result) items) item d) (enumerators d) word v }
+    ensures enumerators { (text : List ℕ) (items : List Item) → IsFaultless text items → (item : ℕ)
+        (d : Definition) → slice_get (definitions_of items) item ≡ Some (Some d) → (b : BodyAt)
+        (es : List Enumerator) → IsAmong (bodies d) b → b.body ≡ Enum es
+        → words_from (numbers_of (definitions_of items)) (Some (pos 0)) [] es
+        ≡ words_meant (number_meant (definitions_of items) (map (λ i. i.result) items)) [] es }
+    ensures enums { (text : List ℕ) (items : List Item) (s : Schema) → IsFaultless text items
+        → IsSchemaOf (definitions_of items) s → (item : ℕ) (d : Definition)
+        → slice_get (definitions_of items) item ≡ Some (Some d) → (b : BodyAt) (es : List Enumerator)
+        → IsAmong (bodies d) b → b.body ≡ Enum es → (place : ℕ)
+        → IsBody s (whole (definitions_of items) s) b.body place → HasEnum s place
+        (words_meant (number_meant (definitions_of items) (map (λ i. i.result) items)) [] es) }
 {}
 
 /// Where nothing is known before a text no name is, so the laws of such texts hold of it.

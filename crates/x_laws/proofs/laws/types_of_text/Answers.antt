@@ -1,3 +1,4 @@
+use Rattle.x_laws.proofs.EnumNumbers.{enum_in_schema, enum_numbers}
 use Rattle.x_laws.proofs.NoFaults.{by_text}
 use Rattle.x_laws.proofs.SchemaNumbers.{schema_numbers}
 use Rattle.x_laws.proofs.SchemaTargets.{as_declared, used_named}
@@ -23,3 +24,10 @@ returns-clause-numbers c = by_text schema_numbers
 
 pub returns-clause-values : goal.returns-clause-values
 returns-clause-values c = by_text value_number
+
+pub returns-clause-enumerators : goal.returns-clause-enumerators
+returns-clause-enumerators c = by_text enum_numbers
+
+pub returns-clause-enums : goal.returns-clause-enums
+returns-clause-enums c = λ text items s.
+    by_text (λ ds os are fine. enum_in_schema ds os s are fine) text items
