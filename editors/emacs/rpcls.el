@@ -84,15 +84,21 @@ If it is not in a folder of the PATH, its whole path.  Settings may follow:
 
 (defun rpcgen-indent-line ()
   "Indent the line by the braces that are open at its front.
+The cases of a union stand where it stands.
 A line that begins with `%' or `#' keeps its place, since that
 counts there; so does one that begins within a comment."
   (let* ((front (save-excursion (back-to-indentation) (point)))
          (state (save-excursion (syntax-ppss front)))
-         (closes (if (memq (char-after front) '(?} ?\])) 1 0))
-         (column (* rpcgen-indent-offset (max 0 (- (car state) closes)))))
+         (closes (or (memq (char-after front) '(?} ?\]))
+                     (save-excursion (goto-char front) (looking-at "\\_<\\(?:case\\|default\\)\\_>"))))
+         (column (* rpcgen-indent-offset (max 0 (- (car state) (if closes 1 0))))))
     (cond ((or (nth 4 state) (memq (char-after front) '(?% ?#))) 'noindent)
           ((<= (point) front) (indent-line-to column))
           (t (save-excursion (indent-line-to column))))))
+
+(defun rpcgen-fill-paragraph (&optional _)
+  "Fill nothing: lines of the language are no paragraphs."
+  t)
 
 ;;;###autoload
 (define-derived-mode rpcgen-mode prog-mode "RPC"
@@ -102,6 +108,7 @@ counts there; so does one that begins within a comment."
   (setq-local comment-start-skip "/\\*+[ \t]*")
   (setq-local syntax-propertize-function #'rpcgen-syntax-propertize)
   (setq-local indent-line-function #'rpcgen-indent-line)
+  (setq-local fill-paragraph-function #'rpcgen-fill-paragraph)
   (setq-local electric-indent-chars (cons ?} electric-indent-chars))
   (setq-local font-lock-multiline t)
   (setq-local font-lock-defaults '(rpcgen-font-lock-keywords)))

@@ -14,7 +14,7 @@ local client
 local function start()
   if vim.lsp.start then return vim.lsp.start(config) end
   if not (client and vim.lsp.get_client_by_id(client)) then client = vim.lsp.start_client(config) end
-  vim.lsp.buf_attach_client(0, client)
+  if client then vim.lsp.buf_attach_client(0, client) end
 end
 
 -- Neovim calls files *.x so by itself; some versions and plugins call them otherwise.

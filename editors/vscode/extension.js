@@ -12,7 +12,7 @@ exports.activate = () => {
   if (setting('foreign')) args.push('--foreign');
   if (setting('directives') === 'fault') args.push('--fault-directives');
   client = new LanguageClient('rpcls', 'rpcls', { command: setting('path'), args }, {
-    documentSelector: [{ language: 'rpcgen' }],
+    documentSelector: ['file', 'untitled'].map((scheme) => ({ scheme, language: 'rpcgen' })),
     initializationOptions: { warnings: setting('warnings'), most: setting('most') },
   });
   return client.start();

@@ -6,6 +6,8 @@
 if exists('b:current_syntax')
   finish
 endif
+let s:cpo = &cpo
+set cpo&vim
 
 syn case match
 syn iskeyword a-z,A-Z,48-57,_
@@ -38,7 +40,7 @@ syn match rpcPassThru "^%.*$"
 syn region rpcDirective start="^\s*#" skip="\\$" end="$" end="/\*\%(.*\*/\)\@!"me=s-1
     \ contains=rpcDirectiveComment
 syn match rpcDirectiveComment contained "/\*.\{-}\*/" contains=rpcTodo,@Spell
-syn match rpcDirectiveComment contained "//.*$" contains=rpcTodo,@Spell
+syn match rpcDirectiveComment contained "//.*" contains=rpcTodo,@Spell
 
 syn sync ccomment rpcComment minlines=50
 
@@ -56,3 +58,5 @@ hi def link rpcPassThru PreProc
 hi def link rpcDirective PreProc
 
 let b:current_syntax = 'rpcgen'
+let &cpo = s:cpo
+unlet s:cpo
